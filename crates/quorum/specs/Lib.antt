@@ -1,0 +1,4 @@
+pub mod Making
+pub mod Refusals
+pub mod Sets
+pub mod Systems
