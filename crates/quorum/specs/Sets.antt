@@ -1,7 +1,7 @@
 -- Sets of members as numbers: binary place i stands for member i.
 use mathlib.Core.Path.{_≡_}
 use mathlib.Core.Bool.{Bool, true, cond}
-use Prim.Native.Nat.{ℕ, _/_, _%_, _^_, _-_}
+use Prim.Native.Nat.{ℕ, zero, suc, _/_, _%_, _^_, _-_}
 use lib.Bits.{bitOr}
 use lib.Dec.{eqb, ltb}
 
@@ -20,3 +20,8 @@ full n = 2 ^ n - 1
 -- the set s with the member i; a set has places for the numbers below 64 alone
 abbrev pub joined : ℕ → ℕ → ℕ
 joined s i = cond (ltb i 64) (bitOr s (2 ^ i)) s
+
+-- the numbers below n that pass a test
+abbrev pub setOf : ℕ → (ℕ → Bool) → ℕ
+setOf zero test = 0
+setOf (suc n) test = cond (test n) (bitOr (setOf n test) (2 ^ n)) (setOf n test)

@@ -1,0 +1,15 @@
+pub mod Words
+pub mod View
+pub mod Fence
+pub mod Channel
+pub mod Sets
+pub mod InputMoves
+pub mod OutputMoves
+pub mod World
+pub mod Fits
+pub mod Kept
+pub mod Operations
+pub mod Steps
+pub mod Keeps
+pub mod Next
+pub mod Bridge

@@ -1,0 +1,1 @@
+pub fn stands() -> u8 { 0 }

@@ -1,0 +1,10 @@
+pub mod Calls
+pub mod Checked
+pub mod Input
+pub mod Lists
+pub mod Numbers
+pub mod Operation
+pub mod Output
+pub mod Ranges
+pub mod Renewals
+pub mod State

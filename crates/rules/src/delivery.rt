@@ -1,0 +1,19 @@
+use crate::version::Version;
+use crate::version::VersionDebug;
+use crate::version::VersionPartialEq;
+
+// What a delivery says: whether an operation ended with it, and how.
+#[derive(Clone, Copy, Debug, PartialEq, Eq)]
+pub enum Delivery {
+    NothingEnded,
+    WriteEnded {
+        operation: u16,
+        version: Version,
+        value: u64,
+    },
+    ReadEnded {
+        operation: u16,
+        version: Version,
+        value: u64,
+    },
+}

@@ -1,0 +1,42 @@
+ghost use mathlib.Core.Path.{_≡_};
+ghost use Prim.Native.Nat.{ℕ};
+ghost use mathlib.Core.List.{[], _∷_};
+ghost use Rattle.rules.specs.Lists.{pairs};
+use crate::version::Version;
+use crate::version::VersionDebug;
+use crate::version::VersionPartialEq;
+
+// An object and a version of it.
+#[derive(Clone, Copy, Debug, PartialEq, Eq)]
+pub struct Pair {
+    pub object: u8,
+    pub version: Version,
+}
+
+// A list of 0 to 8 pairs: the first `count` items. A count above 8 is out of range, and a message
+// with such a list is refused.
+#[derive(Clone, Copy, Debug, PartialEq, Eq)]
+pub struct Pairs {
+    pub count: u8,
+    pub items: [Pair; 8],
+}
+
+impl Pair {
+    pub const NONE: Pair = Pair { object: 0, version: Version::NONE };
+}
+
+impl Pairs {
+    pub fn empty() -> Pairs
+        ensures { λ r. ⌜ r ≡ pairs [] ⌝ }
+    {
+        Pairs { count: 0, items: [Pair::NONE; 8] }
+    }
+
+    pub fn one(pair: Pair) -> Pairs
+        ensures { λ r. ⌜ r ≡ pairs (pair ∷ []) ⌝ }
+    {
+        let mut items = [Pair::NONE; 8];
+        items[0] = pair;
+        Pairs { count: 1, items }
+    }
+}
