@@ -47,7 +47,7 @@ impl MemberSet {
     pub fn is_within(self, count: u8) -> bool
         ensures { λ r. ⌜ r ≡ ltb (self .0) (2 ^ count) ⌝ }
     {
-        count >= 64 || self.0 >> count == 0
+        count >= 64 || self.0 < 1u64 << count
     }
 
     // Whether the set has at least `least` members, and none outside the count.
@@ -61,6 +61,6 @@ impl MemberSet {
     pub fn is_full(self, count: u8) -> bool
         ensures { λ r. ⌜ r ≡ eqb (self .0) (full count) ⌝ }
     {
-        self.is_within(count) && self.len() == count as u32
+        count <= 64 && self.0 as u128 == (1u128 << count) - 1
     }
 }
