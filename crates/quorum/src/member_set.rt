@@ -57,7 +57,8 @@ impl MemberSet {
         self.is_within(count) && self.len() >= least as u32
     }
 
-    // Whether the set is all of that many members.
+    // Whether the set is all of that many members. All of 64 are the number 2^64 - 1, and 2^64
+    // is too large for 64 bits.
     pub fn is_full(self, count: u8) -> bool
         ensures { λ r. ⌜ r ≡ eqb (self .0) (full count) ⌝ }
     {
