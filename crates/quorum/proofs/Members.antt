@@ -3,7 +3,7 @@ use mathlib.Core.Path.{_≡_, refl, sym, ap, _∙_}
 use mathlib.Core.Logic.{_⊎_, inl, inr}
 use mathlib.Core.Bool.{Bool, true, false, _||_}
 use Prim.Native.Nat.{ℕ, zero, suc, _+_, _-_, _*_, _/_, _%_, _^_, _≤_, _<_, max}
-use native.Mathlib.Nat.{pow-suc, div-lt-iff-lt-mul, div-eq-of-lt}
+use native.Mathlib.Nat.{pow-suc, div-eq-of-lt}
 use native.Mathlib.Numerals.{one-add}
 use native.Mathlib.Omega.{arith}
 use lib.Bits.{bitOr, or-step}
@@ -89,14 +89,6 @@ ones-full (suc k) s hs h =
     let p = pow-pos k in
     omega arith
 
--- a set is full just where it has n members
-pub full-ones : (n s : ℕ) → s < 2 ^ n → eqb (ones s) n ≡ eqb s (full n)
-full-ones n s h =
-    let a : n ≤ ones s → s ≡ full n = ones-full n s h in
-    let b : ones (full n) ≡ n = ones-ones n in
-    let c : s ≡ full n → ones s ≡ ones (full n) = λ e. ap ones e in
-    grind arith
-
 -- ---- a set is a number of 64 binary places
 
 -- no number of 64 and up is a member
@@ -110,9 +102,6 @@ has-beyond s i b l =
 pub inside-beyond : (s n : ℕ) → s < 2 ^ 64 → 64 ≤ n → ltb s (2 ^ n) ≡ true
 inside-beyond s n b l = let m : 2 ^ 64 ≤ 2 ^ n = pow-mono l in grind (arith, tells)
 
--- nothing is left above the places of n members
-pub none-above : (s n : ℕ) → eqb (s / 2 ^ n) 0 ≡ ltb s (2 ^ n)
-none-above s n =
-    let a : s / 2 ^ n < 1 → s < 1 * 2 ^ n = div-lt-iff-lt-mul (pow-pos n) .0 in
-    let b : s < 1 * 2 ^ n → s / 2 ^ n < 1 = div-lt-iff-lt-mul (pow-pos n) .1 in
-    grind arith
+-- more than 64 members are in no set
+pub full-beyond : (s n : ℕ) → s < 2 ^ 64 → 64 < n → eqb s (full n) ≡ false
+full-beyond s n b l = let m : 2 ^ 65 ≤ 2 ^ n = pow-mono l in grind (arith, tells)

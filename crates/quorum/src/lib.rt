@@ -6,6 +6,8 @@ mod member_set;
 mod read_one_write_all;
 mod refusal;
 mod system;
+#[cfg(test)]
+mod tests;
 
 pub use majority::Majority;
 pub use majority::MajoritySystem;

@@ -1,5 +1,5 @@
 ghost use mathlib.Core.Path.{_≡_};
-ghost use Prim.Native.Nat.{_≤_};
+ghost use Prim.Native.Nat.{_+_, _/_, _≤_};
 ghost use Rattle.quorum.specs.Systems.{majority};
 ghost use Rattle.quorum.specs.Making.{Made};
 use crate::member_set::MemberSet;
@@ -22,6 +22,21 @@ impl Majority {
         }
         Ok(Majority { count })
     }
+
+    // How many members a write set has at least: more than half.
+    fn least_write(&self) -> u8
+        ensures { λ r. ⌜ r ≡ now (self .entry) .count / 2 + 1 ⌝ }
+    {
+        let half = self.count / 2;
+        half + 1
+    }
+
+    // How many members a read set has at least: as many as a write set.
+    fn least_read(&self) -> u8
+        ensures { λ r. ⌜ r ≡ now (self .entry) .count / 2 + 1 ⌝ }
+    {
+        self.least_write()
+    }
 }
 
 pub impl QuorumSystem for Majority as MajoritySystem {
@@ -32,10 +47,10 @@ pub impl QuorumSystem for Majority as MajoritySystem {
     }
 
     fn is_read_set(&self, set: MemberSet) -> bool {
-        set.has_at_least(self.count / 2 + 1, self.count)
+        set.has_at_least(self.least_read(), self.count)
     }
 
     fn is_write_set(&self, set: MemberSet) -> bool {
-        set.has_at_least(self.count / 2 + 1, self.count)
+        set.has_at_least(self.least_write(), self.count)
     }
 }

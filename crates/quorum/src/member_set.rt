@@ -47,7 +47,7 @@ impl MemberSet {
     pub fn is_within(self, count: u8) -> bool
         ensures { λ r. ⌜ r ≡ ltb (self .0) (2 ^ count) ⌝ }
     {
-        count >= 64 || self.0 >> count == 0
+        count >= 64 || self.0 < 1u64 << count
     }
 
     // Whether the set has at least `least` members, and none outside the count.
@@ -57,10 +57,11 @@ impl MemberSet {
         self.is_within(count) && self.len() >= least as u32
     }
 
-    // Whether the set is all of that many members.
+    // Whether the set is all of that many members. All of 64 are the number 2^64 - 1, and 2^64
+    // is too large for 64 bits.
     pub fn is_full(self, count: u8) -> bool
         ensures { λ r. ⌜ r ≡ eqb (self .0) (full count) ⌝ }
     {
-        self.is_within(count) && self.len() == count as u32
+        count <= 64 && self.0 as u128 == (1u128 << count) - 1
     }
 }

@@ -1,10 +1,9 @@
-use mathlib.Core.Path.{ap, _∙_}
-use Prim.Native.Nat.{ℕ}
-use lib.Dec.{eqb}
+use mathlib.Core.Path.{sym, _∙_}
 use borrow.Author.Needs.{needs}
-use Rattle.quorum.proofs.Members.{full-ones}
+use Rattle.std.proofs.shelf.Tests.{lt-leb}
+use Rattle.quorum.proofs.Members.{full-beyond}
 use Rattle.quorum.proofs.member_set.MemberSet.is_full.Needs as need
 
-pub returns-then-is-within : need.returns-then-is-within
-returns-then-is-within c =
-    ap (λ (x : ℕ). eqb x (c .args .count)) (c .len .ensures) ∙ full-ones (c .args .count) (c .args .self .0) (search needs)
+pub returns-else-count-le64 : need.returns-else-count-le64
+returns-else-count-le64 c =
+    lt-leb (c .args .count) 64 (search needs) ∙ sym (full-beyond (c .args .self .0) (c .args .count) (search needs) (search needs))
