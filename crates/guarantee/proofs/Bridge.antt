@@ -29,7 +29,7 @@ use Rattle.guarantee.proofs.Fits.{fits-question, fits-clock, fits-request, fit
 use Rattle.guarantee.proofs.InputMoves as Ins
 use Rattle.guarantee.proofs.Kept.{Small, May}
 use Rattle.guarantee.proofs.OutputMoves as Outs
-use Rattle.guarantee.proofs.Words.{at, at-same, In, each-length}
+use Rattle.guarantee.proofs.Words.{at, at-same, In, each-nine}
 use Rattle.guarantee.proofs.World.{Params, World, Act, ticks, writes, reads, hears, run, worldOf, sentOf, opOf, atInput, atOutput, atOp, clockState, clockNews, writeState, writeSays, readState, readSays, world-path, sent-post, inp-with, out-with, op-with, op-enter, at-back}
 
 abbrev pub paramsOf : System → System → State → Params
@@ -115,6 +115,9 @@ logged new s h =
   where
     assoc : (a b c : List Message) → length a ≡ s .made → drop (s .made) (a ++ b ++ c) ≡ b ++ c
     assoc a b c n = ap (drop (s .made)) (mathlib.Core.List.append-assoc a b c) ∙ drop-at a (b ++ c) (s .made) n
+
+pub none-logged : (a : ℕ) (l : List Message) → part a a l ≡ []
+none-logged a l = let z : a - a ≡ 0 = omega arith in ap (λ (k : ℕ). take k (drop a l)) z
 
 -- a message that was made is in the log
 pub in-sent : (l : List Message) (k made : ℕ) (d : Message) → k < made → made ≤ length l → In (getD l k d) (take made l)
@@ -210,7 +213,7 @@ module _ (inputs outputs : System) (s : State) (f : Framed s) (room : s .made + 
     may = may;
     world = world-path refl refl (op-with p y s low (let z = f .begun in omega arith)) refl (sym (append-nil (sentOf s))) ∙ sym e;
     said = sym sy;
-    news = nothing (s .log) ∙ sym nw;
+    news = none-logged (s .made) (s .log) ∙ sym nw;
     frame = refl;
     framed = record {
       log = f .log;
@@ -221,9 +224,6 @@ module _ (inputs outputs : System) (s : State) (f : Framed s) (room : s .made + 
       outputs = f .outputs;
     };
   }
-    where
-      nothing : (l : List Message) → part (s .made) (s .made) l ≡ []
-      nothing l = ap (λ (k : ℕ). take k (drop (s .made) l)) (omega arith)
 
   -- no effect on an operation
   pub op-still : (a : Act) (p : ℕ) (y : Operation) → May P a W → W .op p ≡ y → run P a W ≡ atOp p y [] W → saysOf P a W ≡ nothing-ended → newsOf P a W ≡ []
@@ -232,7 +232,164 @@ module _ (inputs outputs : System) (s : State) (f : Framed s) (room : s .made + 
     may = may;
     world = world-path refl refl (sym (at-back p (opOf s)) ∙ ap (λ (z : Operation). at p z (opOf s)) o) refl (sym (append-nil (sentOf s))) ∙ sym e;
     said = sym sy;
-    news = ap (λ (k : ℕ). take k (drop (s .made) (s .log))) (omega arith) ∙ sym nw;
+    news = none-logged (s .made) (s .log) ∙ sym nw;
     frame = refl;
     framed = f;
   }
+
+  -- ---- each kind of message
+
+  module _ (small : Small P) where
+    -- an operation that is known is begun, and its place in the table is its state in the world
+    known-op : (p : ℕ) → isKnown s p ≡ true → (1 ≤ p) × (p ≤ s .begun) × (opOf s p ≡ operationAt s p)
+    known-op p h =
+        let a = and-parts (between 1 (s .begun) p) (stateFits (s .frame .counts) p (operationAt s p)) h in
+        let b = in-range 1 (s .begun) p (a .0) in
+        (b .0, b .1, cond-false (eqb p 0) unused (operationAt s p) (ne-eqb p 0 (λ e. let z = b .0 in omega arith)))
+
+    clock-accepted : (i p c : ℕ) → May P (hears (ClockAnswer i p c)) W → 1 ≤ p → p ≤ s .begun → (y : Operation) → opOf s p ≡ y
+        → Accepted P s (hears (ClockAnswer i p c)) (hearsClockAnswer inputs i p c y s)
+    unfolding clockState clockNews
+    clock-accepted i p c may low high y e = go y e
+      where
+        a : Act
+        a = hears (ClockAnswer i p c)
+        ran : (y : Operation) → opOf s p ≡ y → run P a W ≡ atOp p (clockState P i c y) (clockNews P i c y) W
+        ran y e = ap (λ (z : Operation). atOp p (clockState P i c z) (clockNews P i c z) W) e
+        new : (y : Operation) → opOf s p ≡ y → newsOf P a W ≡ clockNews P i c y
+        new y e = ap (clockNews P i c) e
+        go : (y : Operation) → opOf s p ≡ y → Accepted P s a (hearsClockAnswer inputs i p c y s)
+        go unused e = op-still a p unused may e (ran unused e) refl (new unused e)
+        go (asking x) e = cond-both (knowsClock inputs (hearsClock i c x))
+            (quiet (post (writeRequests (s .frame .counts .n) (getsVersion (hearsClock i c x))) (withOperation p (sending (getsVersion (hearsClock i c x))) s)))
+            (quiet (withOperation p (asking (hearsClock i c x)) s)) (λ (z : Outcome). Accepted P s a z)
+            (λ t. op-accepted a nothing-ended p (sending (getsVersion (hearsClock i c x))) (writeRequests (s .frame .counts .n) (getsVersion (hearsClock i c x)))
+              may low high
+              (each-nine (s .frame .counts .n) (λ k. WriteRequest (x .operation) k (x .object) (getsVersion (hearsClock i c x) .version) (x .value)) (small .n-most))
+              (ran (asking x) e ∙ ap (λ (b : Bool). atOp p (cond b (sending (getsVersion (hearsClock i c x))) (asking (hearsClock i c x)))
+                (cond b (writeRequests (s .frame .counts .n) (getsVersion (hearsClock i c x))) []) W) t)
+              refl
+              (new (asking x) e ∙ ap (λ (b : Bool). cond b (writeRequests (s .frame .counts .n) (getsVersion (hearsClock i c x))) []) t))
+            (λ t. op-kept a nothing-ended p (asking (hearsClock i c x)) may low high
+              (ran (asking x) e ∙ ap (λ (b : Bool). atOp p (cond b (sending (getsVersion (hearsClock i c x))) (asking (hearsClock i c x)))
+                (cond b (writeRequests (s .frame .counts .n) (getsVersion (hearsClock i c x))) []) W) t)
+              refl
+              (new (asking x) e ∙ ap (λ (b : Bool). cond b (writeRequests (s .frame .counts .n) (getsVersion (hearsClock i c x))) []) t))
+        go (sending w) e = op-still a p (sending w) may e (ran (sending w) e) refl (new (sending w) e)
+        go (reading r) e = op-still a p (reading r) may e (ran (reading r) e) refl (new (reading r) e)
+        go ended e = op-still a p ended may e (ran ended e) refl (new ended e)
+
+    write-accepted : (i p : ℕ) (t : MemberSet) → May P (hears (WriteAnswer i p t)) W → 1 ≤ p → p ≤ s .begun → (y : Operation) → opOf s p ≡ y
+        → Accepted P s (hears (WriteAnswer i p t)) (hearsWriteAnswer inputs outputs i p t y s)
+    unfolding writeState writeSays
+    write-accepted i p t may low high y e = go y e
+      where
+        a : Act
+        a = hears (WriteAnswer i p t)
+        ran : (y : Operation) → opOf s p ≡ y → run P a W ≡ atOp p (writeState P i t y) [] W
+        ran y e = ap (λ (z : Operation). atOp p (writeState P i t z) [] W) e
+        says : (y : Operation) → opOf s p ≡ y → saysOf P a W ≡ writeSays P i p t y
+        says y e = ap (writeSays P i p t) e
+        go : (y : Operation) → opOf s p ≡ y → Accepted P s a (hearsWriteAnswer inputs outputs i p t y s)
+        go unused e = op-still a p unused may e (ran unused e) (says unused e) refl
+        go (asking x) e = op-still a p (asking x) may e (ran (asking x) e) (says (asking x) e) refl
+        go (sending w) e = cond-both (isWritten inputs outputs (hearsNamed i t w))
+            (outcome (write-ended p (w .version .0) (w .value)) (withOperation p ended s)) (quiet (withOperation p (sending (hearsNamed i t w)) s))
+            (λ (z : Outcome). Accepted P s a z)
+            (λ q. op-kept a (write-ended p (w .version .0) (w .value)) p ended may low high
+              (ran (sending w) e ∙ ap (λ (b : Bool). atOp p (cond b ended (sending (hearsNamed i t w))) [] W) q)
+              (says (sending w) e ∙ ap (λ (b : Bool). cond b (write-ended p (w .version .0) (w .value)) nothing-ended) q) refl)
+            (λ q. op-kept a nothing-ended p (sending (hearsNamed i t w)) may low high
+              (ran (sending w) e ∙ ap (λ (b : Bool). atOp p (cond b ended (sending (hearsNamed i t w))) [] W) q)
+              (says (sending w) e ∙ ap (λ (b : Bool). cond b (write-ended p (w .version .0) (w .value)) nothing-ended) q) refl)
+        go (reading r) e = op-still a p (reading r) may e (ran (reading r) e) (says (reading r) e) refl
+        go ended e = op-still a p ended may e (ran ended e) (says ended e) refl
+
+    read-accepted : (j p : ℕ) (v : Version) (x : ℕ) → May P (hears (ReadAnswer j p v x)) W → 1 ≤ p → p ≤ s .begun → (y : Operation) → opOf s p ≡ y
+        → Accepted P s (hears (ReadAnswer j p v x)) (hearsReadAnswer outputs j p v x y s)
+    unfolding readState readSays
+    read-accepted j p v x may low high y e = go y e
+      where
+        a : Act
+        a = hears (ReadAnswer j p v x)
+        ran : (y : Operation) → opOf s p ≡ y → run P a W ≡ atOp p (readState P j v x y) [] W
+        ran y e = ap (λ (z : Operation). atOp p (readState P j v x z) [] W) e
+        says : (y : Operation) → opOf s p ≡ y → saysOf P a W ≡ readSays P j p v x y
+        says y e = ap (readSays P j p v x) e
+        go : (y : Operation) → opOf s p ≡ y → Accepted P s a (hearsReadAnswer outputs j p v x y s)
+        go unused e = op-still a p unused may e (ran unused e) (says unused e) refl
+        go (asking z) e = op-still a p (asking z) may e (ran (asking z) e) (says (asking z) e) refl
+        go (sending w) e = op-still a p (sending w) may e (ran (sending w) e) (says (sending w) e) refl
+        go (reading r) e = cond-both (isRead outputs (hearsPair j v x r))
+            (outcome (read-ended p (hearsPair j v x r .version .0) (hearsPair j v x r .value)) (withOperation p ended s)) (quiet (withOperation p (reading (hearsPair j v x r)) s))
+            (λ (z : Outcome). Accepted P s a z)
+            (λ q. op-kept a (read-ended p (hearsPair j v x r .version .0) (hearsPair j v x r .value)) p ended may low high
+              (ran (reading r) e ∙ ap (λ (b : Bool). atOp p (cond b ended (reading (hearsPair j v x r))) [] W) q)
+              (says (reading r) e ∙ ap (λ (b : Bool). cond b (read-ended p (hearsPair j v x r .version .0) (hearsPair j v x r .value)) nothing-ended) q) refl)
+            (λ q. op-kept a nothing-ended p (reading (hearsPair j v x r)) may low high
+              (ran (reading r) e ∙ ap (λ (b : Bool). atOp p (cond b ended (reading (hearsPair j v x r))) [] W) q)
+              (says (reading r) e ∙ ap (λ (b : Bool). cond b (read-ended p (hearsPair j v x r .version .0) (hearsPair j v x r .value)) nothing-ended) q) refl)
+        go ended e = op-still a p ended may e (ran ended e) (says ended e) refl
+
+    in8 : (i : ℕ) → i < s .frame .counts .n → i < 8
+    in8 i l = let z = small .n-most in omega arith
+
+    out8 : (j : ℕ) → j < s .frame .counts .m → j < 8
+    out8 j l = let z = small .m-most in omega arith
+
+    -- a message in range, among those made
+    pub receives-accepted : (m : Message) → In m (sentOf s) → numbersFit (s .frame .counts) m ≡ true
+        → operationFits (isKnown s) (λ p. hasRoom (operationAt s p)) m ≡ true
+        → Accepted P s (hears m) (receives inputs outputs m s)
+    unfolding receives
+    receives-accepted (ClockQuestion p i) h n o =
+        posted (hears (ClockQuestion p i)) (answersClock i p (inputAt s i)) (run P (hears (ClockQuestion p i)) W) (h, n) (omega arith) refl
+          (at-back i (inputAt s)) refl refl refl refl refl refl
+    receives-accepted (ClockAnswer i p c) h n o =
+        let b = known-op p (and-parts (isKnown s p) (hasRoom (operationAt s p)) o .0) in
+        clock-accepted i p c (h, n) (b .0) (b .1) (operationAt s p) (b .2)
+    receives-accepted (WriteRequest p i o v x) h n k = input-accepted (hears (WriteRequest p i o v x)) i J new (h, n)
+        (in8 i (fits-request (s .frame .counts) p i o v x n .receiver))
+        (let z = Ins.length3 i p (s .frame .counts .m) o J in let y = small .m-most in omega arith) refl refl refl
+      where
+        J : Input
+        J = afterWrite (s .frame .counts .m) o v x (inputAt s i)
+        new : List Message
+        new = answersWrite i p (s .frame .counts .m) o J
+    receives-accepted (WriteAnswer i p t) h n o =
+        let b = known-op p o in write-accepted i p t (h, n) (b .0) (b .1) (operationAt s p) (b .2)
+    receives-accepted (ReadRequest p j o) h n k =
+        posted (hears (ReadRequest p j o)) (answersRead inputs j p (s .frame .counts .n) o (outputAt s j)) (run P (hears (ReadRequest p j o)) W) (h, n)
+          (let z = Outs.read-length inputs j p (s .frame .counts .n) o (outputAt s j) (small .n-pos) in let y = small .n-most in omega arith) refl
+          refl (at-back j (outputAt s)) refl refl refl refl refl
+    receives-accepted (ReadAnswer j p v x) h n o =
+        let b = known-op p o in read-accepted j p v x (h, n) (b .0) (b .1) (operationAt s p) (b .2)
+    receives-accepted (RenewalRequest j i a o stamp) h n k = input-accepted (hears (RenewalRequest j i a o stamp)) i
+        (afterRenewal (s .frame .lease) j a o (inputAt s i)) (answersRenewal i (s .frame .lease) j a o stamp (inputAt s i) ∷ []) (h, n)
+        (in8 i (fits-renewal (s .frame .counts) j i a o stamp n .input)) (omega arith) refl refl refl
+    receives-accepted (RenewalAnswer i j a o v x e stamp len l) h n k = output-accepted (hears (RenewalAnswer i j a o v x e stamp len l)) j
+        (afterAnswer (s .frame .drift) i a o v x e stamp len (listOf l) (outputAt s j)) (acknowledgement j i l) (h, n)
+        (out8 j (fits-renewed (s .frame .counts) i j a o v x e stamp len l n .output)) (let z = Outs.ack-length j i l in omega arith) refl refl refl
+    receives-accepted (Invalidation i j o v) h n k = output-accepted (hears (Invalidation i j o v)) j
+        (afterInvalidation i o v (outputAt s j)) (answersInvalidation j i o v) (h, n)
+        (out8 j (fits-invalidation (s .frame .counts) i j o v n .output)) (omega arith) refl refl refl
+    receives-accepted (InvalidationAnswer j i l) h n k =
+        record {
+          may = (h, n);
+          world = world-path (inp-with i J s (let z = f .inputs in let y = in8 i (fits-ack (s .frame .counts) j i l n .input) in omega arith)) refl refl refl
+              (sym (append-nil (sentOf s)));
+          said = refl;
+          news = none-logged (s .made) (s .log);
+          frame = refl;
+          framed = record {
+            log = f .log;
+            table = f .table;
+            made = f .made;
+            begun = f .begun;
+            inputs = length-set (s .inputs) i J ∙ f .inputs;
+            outputs = f .outputs;
+          };
+        }
+      where
+        J : Input
+        J = acknowledgesAll j (listOf l) (inputAt s i)

@@ -32,6 +32,10 @@ pass L R V o w i f g = elim (f .why) [ inl k ↦ known k (i .got-source o) | inr
       | inr (inr q) ↦ stale (x .e) 0 q (x .old) (i .lease-ok (x .s) (x .l) (x .e) (x .ps) (x .sent) .1) b (decLe w (V .known o))
       ]
 
+-- once the input server's clock has reached its lease end, every lease that it granted is over at the output server
+pub over : (L R : ℕ) (V : View) → Inv L R V → V .granted ≤ V .clock-in → (s l e : ℕ) (ps : List Pair) → V .Sent (lease s l e ps) → fin R s l ≤ V .clock-out
+over L R V i z s l e ps b = rw (i .lease-ok s l e ps b .0) (omega (arith, i .drift s l e ps b, mul-le-mul-left R z))
+
 -- a fence is there as soon as the input calls the output shut out, right after it has queued
 pub establish : (L R : ℕ) (V : View) (o w : ℕ) → Inv L R V → Shut V o → Queued V o → w ≤ V .held o → Fenced R V o w
 establish L R V o w i s q h = record { holds = h; why = by s q }
@@ -43,8 +47,6 @@ establish L R V o w i s q h = record { holds = h; why = by s q }
     full : V .held o ≤ V .acked o → (v : ℕ) → Dec (w ≤ v) → (w ≤ v) ⊎ (v < V .known o)
     full z v (yes d) = inl d
     full z v (no d) = inr (omega (arith, i .acked-known o))
-    over : V .granted ≤ V .clock-in → (s l e : ℕ) (ps : List Pair) → V .Sent (lease s l e ps) → fin R s l ≤ V .clock-out
-    over z s l e ps b = rw (i .lease-ok s l e ps b .0) (omega (arith, i .drift s l e ps b, mul-le-mul-left R z))
     by : Shut V o → Queued V o → Known V o w ⊎ Dead R V o w
     by (inl z) q = inl (none z)
     by (inr (inl z)) q = inl (past z)
@@ -52,9 +54,9 @@ establish L R V o w i s q h = record { holds = h; why = by s q }
     by (inr (inr (inr z))) (inl y) = inl (none y)
     by (inr (inr (inr z))) (inr (inl y)) = inl (past y)
     by (inr (inr (inr z))) (inr (inr (inl y))) =
-        inr (record { sent = λ s l e ps b. inl (over z s l e ps b); next = inl (V .held o, y, h) })
+        inr (record { sent = λ s l e ps b. inl (over L R V i z s l e ps b); next = inl (V .held o, y, h) })
     by (inr (inr (inr z))) (inr (inr (inr y))) =
-        inr (record { sent = λ s l e ps b. inl (over z s l e ps b); next = inr (λ v e b _. y v e b) })
+        inr (record { sent = λ s l e ps b. inl (over L R V i z s l e ps b); next = inr (λ v e b _. y v e b) })
 
 -- a step of any server keeps every fence
 pub stable : (L R : ℕ) (V W : View) (o w : ℕ) → Inv L R V → Inv L R W → Moves L R V W → Fenced R V o w → Fenced R W o w

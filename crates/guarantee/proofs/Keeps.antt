@@ -184,7 +184,7 @@ module _ (P : Params) (small : Small P) (W : World) (k : Kept P W) where
   sent-up (hears (InvalidationAnswer b a l)) m h = any-old (λ z. m ≡ z) (W .sent) _ h
 
   -- a fact of operations that no answer takes back is not taken back by any call
-  ops-up : (X : Operation → Type 0)
+  pub ops-up : (X : Operation → Type 0)
       → ((i c : ℕ) (y : Operation) → X y → X (clockState P i c y))
       → ((i : ℕ) (t : MemberSet) (y : Operation) → X y → X (writeState P i t y))
       → ((j : ℕ) (v : Version) (x : ℕ) (y : Operation) → X y → X (readState P j v x y))

@@ -13,3 +13,14 @@ pub mod Steps
 pub mod Keeps
 pub mod Next
 pub mod Bridge
+pub mod CallSteps
+pub mod Opens
+pub mod Ends
+pub mod Since
+pub mod Stories
+pub mod LeaseLaw
+pub mod Waiting
+pub mod ServerSteps
+pub mod Ways
+pub mod Bounds
+pub mod CallLaws

@@ -139,6 +139,10 @@ pub each-length : {A : Type 0} (n : ℕ) (f : ℕ → List A) → ((i : ℕ) →
 each-length zero f h = omega arith
 each-length (suc n) f h = let a = each-length n f h in let b = h n in rw (length-append (each n f) (f n)) (omega arith)
 
+-- one for each of at most eight fits into nine places
+pub each-nine : {A : Type 0} (n : ℕ) (f : ℕ → A) → n ≤ 8 → length (each n (λ i. f i ∷ [])) ≤ 9
+each-nine n f l = let z = each-length n (λ i. f i ∷ []) (λ i. omega arith) in omega arith
+
 -- a list made place by place
 pub each-long : {A : Type 0} (n : ℕ) (f : ℕ → A) → length (each n (λ k. f k ∷ [])) ≡ n
 each-long zero f = refl

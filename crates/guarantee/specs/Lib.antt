@@ -1,2 +1,5 @@
+pub mod Bounds
 pub mod Guarantee
+pub mod Laws
+pub mod Leases
 pub mod Story
