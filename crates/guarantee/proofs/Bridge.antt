@@ -254,27 +254,30 @@ module _ (inputs outputs : System) (s : State) (f : Framed s) (room : s .made + 
       where
         a : Act
         a = hears (ClockAnswer i p c)
+
         ran : (y : Operation) → opOf s p ≡ y → run P a W ≡ atOp p (clockState P i c y) (clockNews P i c y) W
         ran y e = ap (λ (z : Operation). atOp p (clockState P i c z) (clockNews P i c z) W) e
+
         new : (y : Operation) → opOf s p ≡ y → newsOf P a W ≡ clockNews P i c y
         new y e = ap (clockNews P i c) e
+
         go : (y : Operation) → opOf s p ≡ y → Accepted P s a (hearsClockAnswer inputs i p c y s)
         go unused e = op-still a p unused may e (ran unused e) refl (new unused e)
         go (asking x) e = cond-both (knowsClock inputs (hearsClock i c x))
             (quiet (post (writeRequests (s .frame .counts .n) (getsVersion (hearsClock i c x))) (withOperation p (sending (getsVersion (hearsClock i c x))) s)))
             (quiet (withOperation p (asking (hearsClock i c x)) s)) (λ (z : Outcome). Accepted P s a z)
             (λ t. op-accepted a nothing-ended p (sending (getsVersion (hearsClock i c x))) (writeRequests (s .frame .counts .n) (getsVersion (hearsClock i c x)))
-              may low high
-              (each-nine (s .frame .counts .n) (λ k. WriteRequest (x .operation) k (x .object) (getsVersion (hearsClock i c x) .version) (x .value)) (small .n-most))
-              (ran (asking x) e ∙ ap (λ (b : Bool). atOp p (cond b (sending (getsVersion (hearsClock i c x))) (asking (hearsClock i c x)))
-                (cond b (writeRequests (s .frame .counts .n) (getsVersion (hearsClock i c x))) []) W) t)
-              refl
-              (new (asking x) e ∙ ap (λ (b : Bool). cond b (writeRequests (s .frame .counts .n) (getsVersion (hearsClock i c x))) []) t))
+            may low high
+            (each-nine (s .frame .counts .n) (λ k. WriteRequest (x .operation) k (x .object) (getsVersion (hearsClock i c x) .version) (x .value)) (small .n-most))
+            (ran (asking x) e ∙ ap (λ (b : Bool). atOp p (cond b (sending (getsVersion (hearsClock i c x))) (asking (hearsClock i c x)))
+            (cond b (writeRequests (s .frame .counts .n) (getsVersion (hearsClock i c x))) []) W) t)
+            refl
+            (new (asking x) e ∙ ap (λ (b : Bool). cond b (writeRequests (s .frame .counts .n) (getsVersion (hearsClock i c x))) []) t))
             (λ t. op-kept a nothing-ended p (asking (hearsClock i c x)) may low high
-              (ran (asking x) e ∙ ap (λ (b : Bool). atOp p (cond b (sending (getsVersion (hearsClock i c x))) (asking (hearsClock i c x)))
-                (cond b (writeRequests (s .frame .counts .n) (getsVersion (hearsClock i c x))) []) W) t)
-              refl
-              (new (asking x) e ∙ ap (λ (b : Bool). cond b (writeRequests (s .frame .counts .n) (getsVersion (hearsClock i c x))) []) t))
+            (ran (asking x) e ∙ ap (λ (b : Bool). atOp p (cond b (sending (getsVersion (hearsClock i c x))) (asking (hearsClock i c x)))
+            (cond b (writeRequests (s .frame .counts .n) (getsVersion (hearsClock i c x))) []) W) t)
+            refl
+            (new (asking x) e ∙ ap (λ (b : Bool). cond b (writeRequests (s .frame .counts .n) (getsVersion (hearsClock i c x))) []) t))
         go (sending w) e = op-still a p (sending w) may e (ran (sending w) e) refl (new (sending w) e)
         go (reading r) e = op-still a p (reading r) may e (ran (reading r) e) refl (new (reading r) e)
         go ended e = op-still a p ended may e (ran ended e) refl (new ended e)
@@ -286,10 +289,13 @@ module _ (inputs outputs : System) (s : State) (f : Framed s) (room : s .made + 
       where
         a : Act
         a = hears (WriteAnswer i p t)
+
         ran : (y : Operation) → opOf s p ≡ y → run P a W ≡ atOp p (writeState P i t y) [] W
         ran y e = ap (λ (z : Operation). atOp p (writeState P i t z) [] W) e
+
         says : (y : Operation) → opOf s p ≡ y → saysOf P a W ≡ writeSays P i p t y
         says y e = ap (writeSays P i p t) e
+
         go : (y : Operation) → opOf s p ≡ y → Accepted P s a (hearsWriteAnswer inputs outputs i p t y s)
         go unused e = op-still a p unused may e (ran unused e) (says unused e) refl
         go (asking x) e = op-still a p (asking x) may e (ran (asking x) e) (says (asking x) e) refl
@@ -297,11 +303,11 @@ module _ (inputs outputs : System) (s : State) (f : Framed s) (room : s .made + 
             (outcome (write-ended p (w .version .0) (w .value)) (withOperation p ended s)) (quiet (withOperation p (sending (hearsNamed i t w)) s))
             (λ (z : Outcome). Accepted P s a z)
             (λ q. op-kept a (write-ended p (w .version .0) (w .value)) p ended may low high
-              (ran (sending w) e ∙ ap (λ (b : Bool). atOp p (cond b ended (sending (hearsNamed i t w))) [] W) q)
-              (says (sending w) e ∙ ap (λ (b : Bool). cond b (write-ended p (w .version .0) (w .value)) nothing-ended) q) refl)
+            (ran (sending w) e ∙ ap (λ (b : Bool). atOp p (cond b ended (sending (hearsNamed i t w))) [] W) q)
+            (says (sending w) e ∙ ap (λ (b : Bool). cond b (write-ended p (w .version .0) (w .value)) nothing-ended) q) refl)
             (λ q. op-kept a nothing-ended p (sending (hearsNamed i t w)) may low high
-              (ran (sending w) e ∙ ap (λ (b : Bool). atOp p (cond b ended (sending (hearsNamed i t w))) [] W) q)
-              (says (sending w) e ∙ ap (λ (b : Bool). cond b (write-ended p (w .version .0) (w .value)) nothing-ended) q) refl)
+            (ran (sending w) e ∙ ap (λ (b : Bool). atOp p (cond b ended (sending (hearsNamed i t w))) [] W) q)
+            (says (sending w) e ∙ ap (λ (b : Bool). cond b (write-ended p (w .version .0) (w .value)) nothing-ended) q) refl)
         go (reading r) e = op-still a p (reading r) may e (ran (reading r) e) (says (reading r) e) refl
         go ended e = op-still a p ended may e (ran ended e) (says ended e) refl
 
@@ -312,10 +318,13 @@ module _ (inputs outputs : System) (s : State) (f : Framed s) (room : s .made + 
       where
         a : Act
         a = hears (ReadAnswer j p v x)
+
         ran : (y : Operation) → opOf s p ≡ y → run P a W ≡ atOp p (readState P j v x y) [] W
         ran y e = ap (λ (z : Operation). atOp p (readState P j v x z) [] W) e
+
         says : (y : Operation) → opOf s p ≡ y → saysOf P a W ≡ readSays P j p v x y
         says y e = ap (readSays P j p v x) e
+
         go : (y : Operation) → opOf s p ≡ y → Accepted P s a (hearsReadAnswer outputs j p v x y s)
         go unused e = op-still a p unused may e (ran unused e) (says unused e) refl
         go (asking z) e = op-still a p (asking z) may e (ran (asking z) e) (says (asking z) e) refl
@@ -324,11 +333,11 @@ module _ (inputs outputs : System) (s : State) (f : Framed s) (room : s .made + 
             (outcome (read-ended p (hearsPair j v x r .version .0) (hearsPair j v x r .value)) (withOperation p ended s)) (quiet (withOperation p (reading (hearsPair j v x r)) s))
             (λ (z : Outcome). Accepted P s a z)
             (λ q. op-kept a (read-ended p (hearsPair j v x r .version .0) (hearsPair j v x r .value)) p ended may low high
-              (ran (reading r) e ∙ ap (λ (b : Bool). atOp p (cond b ended (reading (hearsPair j v x r))) [] W) q)
-              (says (reading r) e ∙ ap (λ (b : Bool). cond b (read-ended p (hearsPair j v x r .version .0) (hearsPair j v x r .value)) nothing-ended) q) refl)
+            (ran (reading r) e ∙ ap (λ (b : Bool). atOp p (cond b ended (reading (hearsPair j v x r))) [] W) q)
+            (says (reading r) e ∙ ap (λ (b : Bool). cond b (read-ended p (hearsPair j v x r .version .0) (hearsPair j v x r .value)) nothing-ended) q) refl)
             (λ q. op-kept a nothing-ended p (reading (hearsPair j v x r)) may low high
-              (ran (reading r) e ∙ ap (λ (b : Bool). atOp p (cond b ended (reading (hearsPair j v x r))) [] W) q)
-              (says (reading r) e ∙ ap (λ (b : Bool). cond b (read-ended p (hearsPair j v x r .version .0) (hearsPair j v x r .value)) nothing-ended) q) refl)
+            (ran (reading r) e ∙ ap (λ (b : Bool). atOp p (cond b ended (reading (hearsPair j v x r))) [] W) q)
+            (says (reading r) e ∙ ap (λ (b : Bool). cond b (read-ended p (hearsPair j v x r .version .0) (hearsPair j v x r .value)) nothing-ended) q) refl)
         go ended e = op-still a p ended may e (ran ended e) (says ended e) refl
 
     in8 : (i : ℕ) → i < s .frame .counts .n → i < 8
@@ -344,7 +353,7 @@ module _ (inputs outputs : System) (s : State) (f : Framed s) (room : s .made + 
     unfolding receives
     receives-accepted (ClockQuestion p i) h n o =
         posted (hears (ClockQuestion p i)) (answersClock i p (inputAt s i)) (run P (hears (ClockQuestion p i)) W) (h, n) (omega arith) refl
-          (at-back i (inputAt s)) refl refl refl refl refl refl
+        (at-back i (inputAt s)) refl refl refl refl refl refl
     receives-accepted (ClockAnswer i p c) h n o =
         let b = known-op p (and-parts (isKnown s p) (hasRoom (operationAt s p)) o .0) in
         clock-accepted i p c (h, n) (b .0) (b .1) (operationAt s p) (b .2)
@@ -354,14 +363,15 @@ module _ (inputs outputs : System) (s : State) (f : Framed s) (room : s .made + 
       where
         J : Input
         J = afterWrite (s .frame .counts .m) o v x (inputAt s i)
+
         new : List Message
         new = answersWrite i p (s .frame .counts .m) o J
     receives-accepted (WriteAnswer i p t) h n o =
         let b = known-op p o in write-accepted i p t (h, n) (b .0) (b .1) (operationAt s p) (b .2)
     receives-accepted (ReadRequest p j o) h n k =
         posted (hears (ReadRequest p j o)) (answersRead inputs j p (s .frame .counts .n) o (outputAt s j)) (run P (hears (ReadRequest p j o)) W) (h, n)
-          (let z = Outs.read-length inputs j p (s .frame .counts .n) o (outputAt s j) (small .n-pos) in let y = small .n-most in omega arith) refl
-          refl (at-back j (outputAt s)) refl refl refl refl refl
+        (let z = Outs.read-length inputs j p (s .frame .counts .n) o (outputAt s j) (small .n-pos) in let y = small .n-most in omega arith) refl
+        refl (at-back j (outputAt s)) refl refl refl refl refl
     receives-accepted (ReadAnswer j p v x) h n o =
         let b = known-op p o in read-accepted j p v x (h, n) (b .0) (b .1) (operationAt s p) (b .2)
     receives-accepted (RenewalRequest j i a o stamp) h n k = input-accepted (hears (RenewalRequest j i a o stamp)) i

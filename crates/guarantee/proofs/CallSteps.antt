@@ -94,18 +94,18 @@ later-more : {A : Type 0} (later : ℕ → A → A) (rests : (a : A) → later 0
     → ((i : ℕ) → g i ≡ later (cond (ltb i c) (step i) 0) (f i))
     → (i : ℕ) → at c (later (step c) (g c)) g i ≡ later (cond (ltb i (suc c)) (step i) 0) (f i)
 later-more later rests f g step c h i = elim (cases-eq c i) [
-    inl e ↦ subst (λ (k : ℕ). at c (later (step c) (g c)) g k ≡ later (cond (ltb k (suc c)) (step k) 0) (f k)) e
+  | inl e ↦ subst (λ (k : ℕ). at c (later (step c) (g c)) g k ≡ later (cond (ltb k (suc c)) (step k) 0) (f k)) e
       (at-same c (later (step c) (g c)) g
-        ∙ ap (later (step c)) (h c ∙ ap (λ (b : Bool). later (cond b (step c) 0) (f c)) (le-ltb c c (omega arith)) ∙ rests (f c))
-        ∙ ap (λ (b : Bool). later (cond b (step c) 0) (f c)) (sym (lt-ltb c (suc c) (omega arith))))
+      ∙ ap (later (step c)) (h c ∙ ap (λ (b : Bool). later (cond b (step c) 0) (f c)) (le-ltb c c (omega arith)) ∙ rests (f c))
+      ∙ ap (λ (b : Bool). later (cond b (step c) 0) (f c)) (sym (lt-ltb c (suc c) (omega arith))))
   | inr e ↦ at-miss c i (later (step c) (g c)) g e ∙ h i ∙ ap (λ (b : Bool). later (cond b (step i) 0) (f i)) (same i e)
-  ]
+]
   where
     same : (i : ℕ) → (c ≡ i → ⊥) → ltb i c ≡ ltb i (suc c)
     same i e = elim (cases-lt i c) [
-        inl l ↦ lt-ltb i c l ∙ sym (lt-ltb i (suc c) (omega arith))
+      | inl l ↦ lt-ltb i c l ∙ sym (lt-ltb i (suc c) (omega arith))
       | inr l ↦ le-ltb i c l ∙ sym (le-ltb i (suc c) (omega arith))
-      ]
+    ]
 
 pub inputs-later : (xs : List ℕ) (s : State) (c : ℕ) → c ≤ length (s .inputs)
     → (i : ℕ) → inputAt (laterInputs xs c s) i ≡ laterInput (cond (ltb i c) (getD xs i 0) 0) (inputAt s i)
@@ -153,12 +153,13 @@ module _ (inputs outputs : System) (s : State) (f : Framed s) (small : Small (pa
   unfolding delivering
   deliver-step number = when-open a _
       (cond-both (eqb number 0 || ltb (s .made) number) (refuse 31 s) _ (λ (z : Outcome). Stepped P s a z) (λ _. no P s a 31)
-        (λ h1. cond-both (not (hasNine s)) (refuse 32 s) _ (λ (z : Outcome). Stepped P s a z) (λ _. no P s a 32)
-          (λ h2. cond-both (not (inRange (messageAt s number) s)) (refuse 33 s) _ (λ (z : Outcome). Stepped P s a z) (λ _. no P s a 33)
-            (λ h3. inr (ok h1 (not-false _ h2) (not-false _ h3))))))
+      (λ h1. cond-both (not (hasNine s)) (refuse 32 s) _ (λ (z : Outcome). Stepped P s a z) (λ _. no P s a 32)
+      (λ h2. cond-both (not (inRange (messageAt s number) s)) (refuse 33 s) _ (λ (z : Outcome). Stepped P s a z) (λ _. no P s a 33)
+      (λ h3. inr (ok h1 (not-false _ h2) (not-false _ h3))))))
     where
       a : Act
       a = actOf s (to-deliver number)
+
       ok : (eqb number 0 || ltb (s .made) number) ≡ false → hasNine s ≡ true → inRange (messageAt s number) s ≡ true
           → Accepted P s a (receives inputs outputs (messageAt s number) s)
       ok h1 h2 h3 =
@@ -167,7 +168,7 @@ module _ (inputs outputs : System) (s : State) (f : Framed s) (small : Small (pa
           let m = ltb-false (s .made) number (p .1) in
           let q = and-parts (numbersFit (s .frame .counts) (messageAt s number)) (operationFits (isKnown s) (λ p. hasRoom (operationAt s p)) (messageAt s number)) h3 in
           receives-accepted inputs outputs s f (room h2) small (messageAt s number)
-            (in-sent (s .log) (number - 1) (s .made) no-message (low number n m) (f .made)) (q .0) (q .1)
+          (in-sent (s .log) (number - 1) (s .made) no-message (low number n m) (f .made)) (q .0) (q .1)
         where
           low : (number : ℕ) → (number ≡ 0 → ⊥) → number ≤ s .made → number - 1 < s .made
           low number n m = elim (cases-lt 0 number) [ inl l ↦ omega arith | inr l ↦ absurd (n (omega arith)) ]
@@ -177,9 +178,9 @@ module _ (inputs outputs : System) (s : State) (f : Framed s) (small : Small (pa
       → Stepped P s a (beginning inputs outputs o y new s)
   begin-step a o y new may l r sy nw = when-open a _
       (cond-both (leb (s .frame .counts .k) o) (refuse 21 s) _ (λ (z : Outcome). Stepped P s a z) (λ _. no P s a 21)
-        (λ h1. cond-both (leb (length (s .table)) (s .begun)) (refuse 22 s) _ (λ (z : Outcome). Stepped P s a z) (λ _. no P s a 22)
-          (λ h2. cond-both (not (hasNine s)) (refuse 23 s) _ (λ (z : Outcome). Stepped P s a z) (λ _. no P s a 23)
-            (λ h3. inr (ok (leb-false (length (s .table)) (s .begun) h2) (room (not-false _ h3)))))))
+      (λ h1. cond-both (leb (length (s .table)) (s .begun)) (refuse 22 s) _ (λ (z : Outcome). Stepped P s a z) (λ _. no P s a 22)
+      (λ h2. cond-both (not (hasNine s)) (refuse 23 s) _ (λ (z : Outcome). Stepped P s a z) (λ _. no P s a 23)
+      (λ h3. inr (ok (leb-false (length (s .table)) (s .begun) h2) (room (not-false _ h3)))))))
     where
       ok : s .begun < length (s .table) → s .made + 9 ≤ length (s .log) → Accepted P s a (outcome (began (s .begun + 1)) (post new (enter y s)))
       ok h2 h3 = record {
@@ -202,30 +203,35 @@ module _ (inputs outputs : System) (s : State) (f : Framed s) (small : Small (pa
   unfolding advancing
   advance-step xs = when-open a _
       (cond-both (not (eqb (length xs) (s .frame .counts .n + s .frame .counts .m))) (refuse 11 s) _ (λ (z : Outcome). Stepped P s a z) (λ _. no P s a 11)
-        (λ h1. cond-both (not (inputsStay xs (s .frame .counts .n) s && outputsStay xs (s .frame .counts .m) s)) (refuse 12 s) _ (λ (z : Outcome). Stepped P s a z) (λ _. no P s a 12)
-          (λ h2. cond-both (not (keepsDrift (s .frame .drift) xs)) (refuse 13 s) _ (λ (z : Outcome). Stepped P s a z) (λ _. no P s a 13)
-            (λ h3. inr (ok (eqb-true (length xs) (s .frame .counts .n + s .frame .counts .m) (not-false _ h1)) (not-false _ h3))))))
+      (λ h1. cond-both (not (inputsStay xs (s .frame .counts .n) s && outputsStay xs (s .frame .counts .m) s)) (refuse 12 s) _ (λ (z : Outcome). Stepped P s a z) (λ _. no P s a 12)
+      (λ h2. cond-both (not (keepsDrift (s .frame .drift) xs)) (refuse 13 s) _ (λ (z : Outcome). Stepped P s a z) (λ _. no P s a 13)
+      (λ h3. inr (ok (eqb-true (length xs) (s .frame .counts .n + s .frame .counts .m) (not-false _ h1)) (not-false _ h3))))))
     where
       a : Act
       a = actOf s (to-advance xs)
+
       t : State
       t = laterInputs xs (s .frame .counts .n) s
+
       u : State
       u = laterOutputs xs (s .frame .counts .n) (s .frame .counts .m) t
+
       i : InputsOnly s t
       i = inputs-only xs (s .frame .counts .n) s
+
       o : OutputsOnly t u
       o = outputs-only xs (s .frame .counts .n) (s .frame .counts .m) t
+
       ok : length xs ≡ s .frame .counts .n + s .frame .counts .m → keepsDrift (s .frame .drift) xs ≡ true → Accepted P s a (outcome accepted (advanced xs s))
       ok h1 h3 = record {
         may = λ x y l m. subst (λ (b : ℕ). (1000 - s .frame .drift) * b ≤ 1000 * cond (ltb y (s .frame .counts .m)) (getD xs (s .frame .counts .n + y) 0) 0)
             (sym (ap (λ (b : Bool). cond b (getD xs x 0) 0) (lt-ltb x (s .frame .counts .n) l)))
             (subst (λ (b : ℕ). (1000 - s .frame .drift) * getD xs x 0 ≤ 1000 * b) (sym (ap (λ (b : Bool). cond b (getD xs (s .frame .counts .n + y) 0) 0) (lt-ltb y (s .frame .counts .m) m)))
-              (keep-each (s .frame .drift) xs xs h3 (s .frame .counts .n + y) x (omega arith) (omega arith)));
+            (keep-each (s .frame .drift) xs xs h3 (s .frame .counts .n + y) x (omega arith) (omega arith)));
         world = world-path
             (ap (λ (l : List Input). (λ (k : ℕ). getD l k no-input)) (o .inputs) ∙ fun-ext (inputs-later xs s (s .frame .counts .n) (let z = f .inputs in let y = small .n-most in omega arith)))
             (fun-ext (λ j. outputs-later xs (s .frame .counts .n) t (s .frame .counts .m) (let z = f .outputs in let y = small .m-most in let w = ap (λ (l : List Output). length l) (i .outputs) in omega arith) j
-              ∙ ap (λ (l : List Output). laterOutput (cond (ltb j (s .frame .counts .m)) (getD xs (s .frame .counts .n + j) 0) 0) (getD l j no-output)) (i .outputs)))
+            ∙ ap (λ (l : List Output). laterOutput (cond (ltb j (s .frame .counts .m)) (getD xs (s .frame .counts .n + j) 0) 0) (getD l j no-output)) (i .outputs)))
             (fun-ext (λ p. ap (λ (l : List Operation). cond (eqb p 0) unused (getD l (p - 1) unused)) (o .table ∙ i .table)))
             (o .begun ∙ i .begun)
             (ap (λ (k : ℕ). take k (u .log)) (o .made ∙ i .made) ∙ ap (λ (l : List Message). take (s .made) l) (o .log ∙ i .log));

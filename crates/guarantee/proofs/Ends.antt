@@ -190,10 +190,10 @@ module _ (P : Params) (W : World) (p i o : ℕ) (v : Version) (x : ℕ) where
       go : (b : Bool) → knowsClock (P .inputs) (hearsClock k c a) ≡ b → In (WriteRequest p i o v x) (cond b (writeRequests (P .counts .n) (getsVersion (hearsClock k c a))) [])
           → GetsVersion P W (hears (ClockAnswer k q c)) p o v x
       go true g h = let r = each-any (λ z. WriteRequest p i o v x ≡ z) (P .counts .n)
-            (λ i. WriteRequest (a .operation) i (a .object) (getsVersion (hearsClock k c a) .version) (a .value) ∷ []) h in
+          (λ i. WriteRequest (a .operation) i (a .object) (getsVersion (hearsClock k c a) .version) (a .value) ∷ []) h in
           elim (r .2) [
-            inl f ↦ record { from = k; named = q; clock = c; ask = a; act = refl; op = e; knows = g; own = cc; object = cc; version = cc; value = cc }
-          | inr f ↦ absurd f
+            | inl f ↦ record { from = k; named = q; clock = c; ask = a; act = refl; op = e; knows = g; own = cc; object = cc; version = cc; value = cc }
+            | inr f ↦ absurd f
           ]
       go false g h = absurd h
   from-clock k q c (sending w) e h = absurd h

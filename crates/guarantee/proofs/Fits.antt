@@ -13,7 +13,7 @@ use Rattle.quorum.specs.declared.member_set.MemberSet.{MemberSet}
 use Rattle.rules.specs.declared.epoch.Epoch.{Epoch}
 use Rattle.rules.specs.declared.message.Message.{Message}
 use Rattle.rules.specs.declared.message.Message.the-variants.{ClockQuestion, ClockAnswer, WriteRequest, WriteAnswer, ReadRequest, ReadAnswer, RenewalRequest, RenewalAnswer, Invalidation, InvalidationAnswer}
-use Rattle.rules.specs.declared.message.Parts.{Parts}
+use Rattle.rules.specs.declared.parts.Parts.{Parts}
 use Rattle.rules.specs.declared.pairs.Pair.{Pair}
 use Rattle.rules.specs.declared.pairs.Pairs.{Pairs}
 use Rattle.rules.specs.declared.time.Time.{Time}
@@ -126,9 +126,10 @@ module _ (c : Counts) where
       volume true e h =
           let y = and-parts (leb length longest) (listFits c l) h in (leb-true length longest (y .0), fits-list l (y .1))
       volume false e h =
-          let y = and-parts (eqb length 0) (eqb (l .count) 0) h in
-          (let z = eqb-true length 0 (y .0) in omega arith,
-            subst (λ (n : ℕ). All (λ (p : Pair). p .object < c .k) (take n (l .items))) (sym (eqb-true (l .count) 0 (y .1))) tt)
+          let y = and-parts (eqb length 0) (eqb (l .count) 0) h in (
+            let z = eqb-true length 0 (y .0) in omega arith,
+            subst (λ (n : ℕ). All (λ (p : Pair). p .object < c .k) (take n (l .items))) (sym (eqb-true (l .count) 0 (y .1))) tt,
+          )
 
   pub record InvalidationFits (i j o : ℕ) (v : Version) : Type 0 where
     pub input : i < c .n

@@ -16,7 +16,7 @@ use Rattle.rules.specs.declared.kept.Held.{Held}
 use Rattle.rules.specs.declared.kept.Newest.{Newest}
 use Rattle.rules.specs.declared.message.Message.{Message}
 use Rattle.rules.specs.declared.message.Message.the-variants.{ClockQuestion, ClockAnswer, WriteRequest, WriteAnswer, ReadRequest, ReadAnswer, RenewalRequest, RenewalAnswer, Invalidation, InvalidationAnswer}
-use Rattle.rules.specs.declared.message.Parts.{Parts}
+use Rattle.rules.specs.declared.parts.Parts.{Parts}
 use Rattle.rules.specs.declared.pairs.Pairs.{Pairs}
 use Rattle.rules.specs.declared.time.Time.{Time}
 use Rattle.rules.specs.declared.version.Version.{Version}
@@ -78,10 +78,16 @@ module _ (P : Params) (small : Small P) (W : World) (k : Kept P W) where
     shape = Ins.shape3 (P .counts .m) o v x (W .inp a);
     clocked = Ins.lc3 (P .counts .m) o v x (W .inp a) .1;
     held = λ q. elim (Ins.held3 (P .counts .m) o v x (W .inp a) q) [
-        inl e ↦ inl e
-      | inr e ↦ inr (inr (p, (a, wanted q (held (afterWrite (P .counts .m) o v x (W .inp a)) q .version)
-          (held (afterWrite (P .counts .m) o v x (W .inp a)) q .value) (e .0) (e .1) (e .2))))
-      ];
+      | inl e ↦ inl e
+      | inr e ↦ inr (inr (
+        p,
+        (
+          a,
+          wanted q (held (afterWrite (P .counts .m) o v x (W .inp a)) q .version)
+              (held (afterWrite (P .counts .m) o v x (W .inp a)) q .value) (e .0) (e .1) (e .2),
+        ),
+      ))
+    ];
   }
     where
       wanted : (q : ℕ) (u : Version) (z : ℕ) → q ≡ o → u ≡ v → z ≡ x → In (WriteRequest p a q u z) (W .sent)
@@ -132,11 +138,11 @@ module _ (P : Params) (small : Small P) (W : World) (k : Kept P W) where
   output-answer a b w o v x e stamp len l sent O = record {
     shape = Outs.shape8 (P .drift) a w o v x e stamp len (listOf l) O;
     newest = λ q. elim (Outs.newest8 (P .drift) a w o v x e stamp len (listOf l) O q) [
-        inl d ↦ inl d
+      | inl d ↦ inl d
       | inr d ↦ inr (wanted q (newestOf (afterAnswer (P .drift) a w o v x e stamp len (listOf l) O) q .version)
           (newestOf (afterAnswer (P .drift) a w o v x e stamp len (listOf l) O) q .value) (d .0) (d .2) (d .3)
           (msg-at (RenewalAnswer a b w o v x e stamp len l) sent (d .1)))
-      ];
+    ];
   }
     where
       wanted : (q : ℕ) (u : Version) (z : ℕ) → q ≡ o → u ≡ v → z ≡ x → Genuine W o v x → Genuine W q u z
@@ -163,7 +169,7 @@ module _ (P : Params) (small : Small P) (W : World) (k : Kept P W) where
       one-output b (afterAnswer (P .drift) a w o v x e stamp len (listOf l) (W .out b)) (output-answer a b w o v x e stamp len l (h .0) (W .out b)) j
   outputs-step (hears (Invalidation a b o v)) h j =
       one-output b (afterInvalidation a o v (W .out b))
-        (record { shape = Outs.shape9 a o v (W .out b); newest = λ q. inl (Outs.newest9 a o v (W .out b) q) }) j
+      (record { shape = Outs.shape9 a o v (W .out b); newest = λ q. inl (Outs.newest9 a o v (W .out b) q) }) j
   outputs-step (hears (InvalidationAnswer b a l)) h j = output-same W (W .out j)
 
   -- ---- nothing is taken back

@@ -88,7 +88,7 @@ MsgOk P W (WriteRequest p i o v x) = Begun W p × Wrote (W .op p) o v x
 MsgOk P W (WriteAnswer i p t) =
     Begun W p
     × ((o : ℕ) × (v : Version) × (x : ℕ) × Requested W p o v x
-      × ((j : ℕ) → has (t .0) j ≡ true → i < P .counts .n → j < P .counts .m → Stands P W i j o (v .0)))
+    × ((j : ℕ) → has (t .0) j ≡ true → i < P .counts .n → j < P .counts .m → Stands P W i j o (v .0)))
 MsgOk P W (ReadRequest p j o) = Begun W p × Reads (W .op p) o
 MsgOk P W (ReadAnswer j p v x) = Begun W p × ((o : ℕ) × AskedFor W p o × Genuine W o v x)
 MsgOk P W (RenewalRequest j i a o stamp) = Unit {0}
@@ -171,13 +171,15 @@ module _ (P : Params) (W V : World) (g : Grows P W V) where
   msg-grows (ClockQuestion p i) h = begun-grows p h
   msg-grows (ClockAnswer i p c) h = begun-grows p h
   msg-grows (WriteRequest p i o v x) h = (begun-grows p (h .0), g .wrote p o v x (h .0) (h .1))
-  msg-grows (WriteAnswer i p t) h = let r = h .1 in
-      (begun-grows p (h .0),
-        (r .0, r .1, r .2, requested-grows p (r .0) (r .1) (r .2) (r .3), λ j b k l. g .stands i j (r .0) (r .1 .0) k l (r .4 j b k l)))
+  msg-grows (WriteAnswer i p t) h = let r = h .1 in (
+    begun-grows p (h .0),
+    (r .0, r .1, r .2, requested-grows p (r .0) (r .1) (r .2) (r .3), λ j b k l. g .stands i j (r .0) (r .1 .0) k l (r .4 j b k l)),
+  )
   msg-grows (ReadRequest p j o) h = (begun-grows p (h .0), g .reads p o (h .0) (h .1))
-  msg-grows (ReadAnswer j p v x) h = let r = h .1 in
-      (begun-grows p (h .0),
-        (r .0, (r .1 .0, g .sent (ReadRequest p (r .1 .0) (r .0)) (r .1 .1)), genuine-grows (r .0) v x (r .2)))
+  msg-grows (ReadAnswer j p v x) h = let r = h .1 in (
+    begun-grows p (h .0),
+    (r .0, (r .1 .0, g .sent (ReadRequest p (r .1 .0) (r .0)) (r .1 .1)), genuine-grows (r .0) v x (r .2)),
+  )
   msg-grows (RenewalRequest j i a o stamp) h = tt
   msg-grows (RenewalAnswer i j a o v x e stamp length l) h = λ b. genuine-grows o v x (h b)
   msg-grows (Invalidation i j o v) h = tt

@@ -24,16 +24,16 @@ use Rattle.guarantee.proofs.World.{Params, worldOf}
 
 pub leases-run-out : LeasesRunOut
 leases-run-out S il ol closed t h is-open i j i<n j<m waited a o v x e stamp len l asks some sent = elim (fine S il ol closed t h) [
-    inl f ↦ absurd (false≢true (sym f ∙ is-open))
+  | inl f ↦ absurd (false≢true (sym f ∙ is-open))
   | inr k ↦ ends (k .live .params) (k .live .kept)
-  ]
+]
   where
     ends : {P : Params} → paramsOf (S .inputs) (S .outputs) (before S t) ≡ P → Kept P (worldOf (before S t))
         → leaseEnd (stamp .0) len (before S t .frame .drift) .0 ≤ outputAt (before S t) j .clock .0
     ends p kept =
         let k = subst (λ (Q : Params). Kept Q (worldOf (before S t))) (sym p) kept in
         over (before S t .frame .lease) (1000 - before S t .frame .drift) (view (worldOf (before S t)) i j) (k .chans i j i<n j<m) waited
-          (stamp .0) len (e .0) (listOf l)
-          (in-any (Says i j (lease (stamp .0) len (e .0) (listOf l))) (RenewalAnswer i j a o v x e stamp len l) (take (before S t .made) (before S t .log))
-            (has-in (RenewalAnswer i j a o v x e stamp len l) (take (before S t .made) (before S t .log)) sent)
-            (refl, refl, inr (asks, some, (refl, refl, refl, refl))))
+        (stamp .0) len (e .0) (listOf l)
+        (in-any (Says i j (lease (stamp .0) len (e .0) (listOf l))) (RenewalAnswer i j a o v x e stamp len l) (take (before S t .made) (before S t .log))
+        (has-in (RenewalAnswer i j a o v x e stamp len l) (take (before S t .made) (before S t .log)) sent)
+        (refl, refl, inr (asks, some, (refl, refl, refl, refl))))

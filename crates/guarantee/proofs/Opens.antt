@@ -172,23 +172,28 @@ module _ (inputs outputs : System) (in-lawful : Lawful inputs) (out-lawful : Law
     where
       t : State
       t = opened (inputs .count) (outputs .count) k lease drift clocks s
+
       small : Small (paramsOf inputs outputs t)
       small = record { n-pos = in-lawful .some; m-pos = out-lawful .some; n-most = n; m-most = m; k-most = few; n-is = refl; m-is = refl }
+
       in-time : ℕ → Time
       in-time i = cond (ltb i 8) (startClock clocks 0 (inputs .count) i) (record { 0 = 0 })
+
       out-time : ℕ → Time
       out-time j = cond (ltb j 8) (startClock clocks (inputs .count) (outputs .count) j) (record { 0 = 0 })
+
       made-at : {A : Type 0} (first : Time → A) (clock : ℕ → Time) (i : ℕ)
           → getD (each 8 (λ i. first (clock i) ∷ [])) i (first (record { 0 = 0 })) ≡ first (cond (ltb i 8) (clock i) (record { 0 = 0 }))
       made-at {A = A} first clock i = elim (cases-lt i 8) [
-          inl l ↦ each-at 8 (λ i. first (clock i)) i (first (record { 0 = 0 })) l
+        | inl l ↦ each-at 8 (λ i. first (clock i)) i (first (record { 0 = 0 })) l
             ∙ ap (λ (b : Bool). first (cond b (clock i) (record { 0 = 0 }))) (sym (lt-ltb i 8 l))
         | inr l ↦ List·getD-eq-default (each 8 (λ i. first (clock i) ∷ [])) (first (record { 0 = 0 })) (beyond i l)
             ∙ ap (λ (b : Bool). first (cond b (clock i) (record { 0 = 0 }))) (sym (le-ltb i 8 l))
-        ]
+      ]
         where
           beyond : (i : ℕ) → 8 ≤ i → length (each 8 (λ i. first (clock i) ∷ [])) ≤ i
           beyond i l = let z = each-long 8 (λ i. first (clock i)) in omega arith
+
       world : worldOf t ≡ firstWorld in-time out-time (opOf s)
       world = world-path (fun-ext (made-at firstInput (startClock clocks 0 (inputs .count)))) (fun-ext (made-at firstOutput (startClock clocks (inputs .count) (outputs .count)))) refl refl refl
 
@@ -207,7 +212,7 @@ module _ (inputs outputs : System) (in-lawful : Lawful inputs) (out-lawful : Law
       (λ _. cond-both (not (eqb (length clocks) (inputs .count + outputs .count) && clocksFit clocks)) (refuse 6 s) _ OpenStep (λ _. inl (6, refl))
       (λ _. cond-both (not (between 9 65535 (length (s .log)) && between 1 1024 (length (s .table)))) (refuse 7 s) _ OpenStep (λ _. inl (7, refl))
       (λ _. let p = or-parts (ltb 8 (inputs .count)) (ltb 8 (outputs .count)) h2 in
-          inr (open-accepted k lease drift clocks (ltb-false 8 (inputs .count) (p .0)) (ltb-false 8 (outputs .count) (p .1)) (in-range 1 16 k (not-false _ h3) .1)))))))))
+      inr (open-accepted k lease drift clocks (ltb-false 8 (inputs .count) (p .0)) (ltb-false 8 (outputs .count) (p .1)) (in-range 1 16 k (not-false _ h3) .1)))))))))
   closed-step e (to-advance xs) = inl (8, cond-false (s .frame .isOpen) _ (refuse 8 s) e)
   closed-step e (to-write o x) = inl (8, cond-false (s .frame .isOpen) _ (refuse 8 s) e)
   closed-step e (to-read o) = inl (8, cond-false (s .frame .isOpen) _ (refuse 8 s) e)

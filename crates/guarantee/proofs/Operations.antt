@@ -91,21 +91,21 @@ pub named-from : (i : ℕ) (t : MemberSet) (N : List MemberSet) (k j : ℕ)
     → has (namedBy (set N i (record { 0 = bitOr (namedBy N i) (t .0) })) k) j ≡ true
     → (has (namedBy N k) j ≡ true) ⊎ ((i ≡ k) × (has (t .0) j ≡ true))
 named-from i t N k j h = elim (set-from N i k (record { 0 = bitOr (namedBy N i) (t .0) }) (record { 0 = 0 })) [
-    inl e ↦ inl (subst (λ (s : MemberSet). has (s .0) j ≡ true) e h)
+  | inl e ↦ inl (subst (λ (s : MemberSet). has (s .0) j ≡ true) e h)
   | inr e ↦ elim (or-cases (has (namedBy N i) j) (has (t .0) j) (sym (has-or (namedBy N i) (t .0) j) ∙ subst (λ (s : MemberSet). has (s .0) j ≡ true) (e .1) h)) [
-      inl a ↦ inl (subst (λ (z : ℕ). has (namedBy N z) j ≡ true) (e .0) a)
+    | inl a ↦ inl (subst (λ (z : ℕ). has (namedBy N z) j ≡ true) (e .0) a)
     | inr a ↦ inr (e .0, a)
-    ]
   ]
+]
 
 -- the pair that a read has after an answer is the one that it had, or the answer's
 pub pair-from : (j : ℕ) (v : Version) (x : ℕ) (r : Reading)
     → (((hearsPair j v x r .version ≡ r .version) × (hearsPair j v x r .value ≡ r .value) × (v .0 ≤ r .version .0))
-      ⊎ ((hearsPair j v x r .version ≡ v) × (hearsPair j v x r .value ≡ x) × (r .version .0 < v .0)))
+    ⊎ ((hearsPair j v x r .version ≡ v) × (hearsPair j v x r .value ≡ x) × (r .version .0 < v .0)))
 pair-from j v x r = go (ltb (r .version .0) (v .0)) refl
   where
     go : (b : Bool) → ltb (r .version .0) (v .0) ≡ b
         → (((cond b v (r .version) ≡ r .version) × (cond b x (r .value) ≡ r .value) × (v .0 ≤ r .version .0))
-          ⊎ ((cond b v (r .version) ≡ v) × (cond b x (r .value) ≡ x) × (r .version .0 < v .0)))
+        ⊎ ((cond b v (r .version) ≡ v) × (cond b x (r .value) ≡ x) × (r .version .0 < v .0)))
     go true e = inr (refl, refl, ltb-true (r .version .0) (v .0) e)
     go false e = inl (refl, refl, ltb-false (r .version .0) (v .0) e)

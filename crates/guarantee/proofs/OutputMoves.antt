@@ -17,7 +17,7 @@ use Rattle.rules.specs.declared.kept.Link.{Link}
 use Rattle.rules.specs.declared.kept.Newest.{Newest}
 use Rattle.rules.specs.declared.message.Message.{Message}
 use Rattle.rules.specs.declared.message.Message.the-variants.{ReadAnswer, RenewalRequest, RenewalAnswer, InvalidationAnswer}
-use Rattle.rules.specs.declared.message.Parts.{Parts}
+use Rattle.rules.specs.declared.parts.Parts.{Parts}
 use Rattle.rules.specs.declared.pairs.Pair.{Pair}
 use Rattle.rules.specs.declared.pairs.Pairs.{Pairs}
 use Rattle.rules.specs.declared.time.Time.{Time}
@@ -73,22 +73,22 @@ hears-from x l p = set-from (l .copies) (x .object) p (heard x l) no-copy
 
 hears-got : (x : Pair) (l : Link) (p : ℕ) → copyOf (hears x l) p .got ≡ copyOf l p .got
 hears-got x l p = elim (hears-from x l p) [
-    inl e ↦ ap (λ (c : Copied). c .got) e
+  | inl e ↦ ap (λ (c : Copied). c .got) e
   | inr h ↦ ap (λ (c : Copied). c .got) (h .1) ∙ ap (λ (k : ℕ). copyOf l k .got) (h .0)
-  ]
+]
 
 hears-epoch : (x : Pair) (l : Link) (p : ℕ) → copyOf (hears x l) p .epoch ≡ copyOf l p .epoch
 hears-epoch x l p = elim (hears-from x l p) [
-    inl e ↦ ap (λ (c : Copied). c .epoch) e
+  | inl e ↦ ap (λ (c : Copied). c .epoch) e
   | inr h ↦ ap (λ (c : Copied). c .epoch) (h .1) ∙ ap (λ (k : ℕ). copyOf l k .epoch) (h .0)
-  ]
+]
 
 hears-up : (x : Pair) (l : Link) (p : ℕ) → copyOf l p .known .0 ≤ copyOf (hears x l) p .known .0
 hears-up x l p = elim (hears-from x l p) [
-    inl e ↦ subst (λ (c : Copied). copyOf l p .known .0 ≤ c .known .0) (sym e) (omega arith)
+  | inl e ↦ subst (λ (c : Copied). copyOf l p .known .0 ≤ c .known .0) (sym e) (omega arith)
   | inr h ↦ subst (λ (c : Copied). copyOf l p .known .0 ≤ c .known .0) (sym (h .1))
       (subst (λ (k : ℕ). copyOf l k .known .0 ≤ heard x l .known .0) (h .0) (raised-up (copyOf l (x .object) .known) (x .version)))
-  ]
+]
 
 hears-told : (x : Pair) (l : Link) → x .object < length (l .copies) → x .version .0 ≤ copyOf (hears x l) (x .object) .known .0
 hears-told x l b = subst (λ (c : Copied). x .version .0 ≤ c .known .0) (sym (getD-set-same (l .copies) (x .object) (heard x l) no-copy b))
@@ -127,11 +127,11 @@ unfolding hearsAll
 hears-all-told [] l b o v h = absurd h
 hears-all-told (x ∷ r) l b o v (inl h) =
     let d : v ≤ copyOf (hearsAll r (hears x l)) (x .object) .known .0 =
-        omega (arith, hears-all-up r (hears x l) (x .object), hears-told x l (b .0)) in
+    omega (arith, hears-all-up r (hears x l) (x .object), hears-told x l (b .0)) in
     subst (λ (k : ℕ). v ≤ copyOf (hearsAll r (hears x l)) k .known .0) (h .0) d
 hears-all-told (x ∷ r) l b o v (inr h) =
     hears-all-told r (hears x l)
-        (subst (λ (n : ℕ). All (λ (p : Pair). p .object < n) r) (sym (length-set (l .copies) (x .object) (heard x l))) (b .1)) o v h
+    (subst (λ (n : ℕ). All (λ (p : Pair). p .object < n) r) (sym (length-set (l .copies) (x .object) (heard x l))) (b .1)) o v h
 
 -- ---- a link that takes a copy
 
@@ -143,11 +143,11 @@ takes-from : (w : Parts) (o : ℕ) (v : Version) (e : Epoch) (l : Link) (p : ℕ
     ⊎ ((o ≡ p) × (asksObject w ≡ true) × (copyOf l o .known .0 ≤ v .0) × (copyOf (takesCopy w o v e l) p ≡ taken o v e l))
 takes-from w o v e l p = cond-both (accepts w o v l) (withCopy o (taken o v e l) l) l
     (λ (k : Link). (copyOf k p ≡ copyOf l p)
-      ⊎ ((o ≡ p) × (asksObject w ≡ true) × (copyOf l o .known .0 ≤ v .0) × (copyOf k p ≡ taken o v e l)))
+    ⊎ ((o ≡ p) × (asksObject w ≡ true) × (copyOf l o .known .0 ≤ v .0) × (copyOf k p ≡ taken o v e l)))
     (λ t. let b = and-parts (asksObject w) (leb (copyOf l o .known .0) (v .0)) t in elim (set-from (l .copies) o p (taken o v e l) no-copy) [
-        inl h ↦ inl h
+      | inl h ↦ inl h
       | inr h ↦ inr (h .0, b .0, leb-true (copyOf l o .known .0) (v .0) (b .1), h .1)
-      ])
+    ])
     (λ _. inl refl)
 
 takes-copies : (w : Parts) (o : ℕ) (v : Version) (e : Epoch) (l : Link) → length (takesCopy w o v e l .copies) ≡ length (l .copies)
@@ -161,10 +161,10 @@ takes-lease w o v e l = cond-both (accepts w o v l) (withCopy o (taken o v e l) 
 
 takes-up : (w : Parts) (o : ℕ) (v : Version) (e : Epoch) (l : Link) (p : ℕ) → copyOf l p .known .0 ≤ copyOf (takesCopy w o v e l) p .known .0
 takes-up w o v e l p = elim (takes-from w o v e l p) [
-    inl h ↦ subst (λ (c : Copied). copyOf l p .known .0 ≤ c .known .0) (sym h) (omega arith)
+  | inl h ↦ subst (λ (c : Copied). copyOf l p .known .0 ≤ c .known .0) (sym h) (omega arith)
   | inr h ↦ subst (λ (c : Copied). copyOf l p .known .0 ≤ c .known .0) (sym (h .3))
       (subst (λ (k : ℕ). copyOf l k .known .0 ≤ v .0) (h .0) (h .2))
-  ]
+]
 
 -- ---- a link that takes a lease
 
@@ -185,24 +185,24 @@ module _ (w : Parts) (e : Epoch) (stamp : Time) (len drift : ℕ) (l : Link) whe
   leases-until : l .until .0 ≤ takesLease w e stamp len drift l .until .0
   leases-until = cond-both (asksVolume w) leasing l (λ (k : Link). l .until .0 ≤ k .until .0)
       (λ _. cond-both (ltb 0 len) (longer (l .until) (leaseEnd (stamp .0) len drift)) (l .until) (λ (t : Time). l .until .0 ≤ t .0)
-        (λ _. longer-up (l .until) (leaseEnd (stamp .0) len drift)) (λ _. omega arith))
+      (λ _. longer-up (l .until) (leaseEnd (stamp .0) len drift)) (λ _. omega arith))
       (λ _. omega arith)
 
   -- the lease ends where it did, or where the one taken ends
   leases-from : (takesLease w e stamp len drift l .until ≡ l .until)
       ⊎ ((asksVolume w ≡ true) × (1 ≤ len) × (takesLease w e stamp len drift l .until ≡ leaseEnd (stamp .0) len drift)
-        × (e .0 ≤ takesLease w e stamp len drift l .epoch .0))
+      × (e .0 ≤ takesLease w e stamp len drift l .epoch .0))
   leases-from = cond-both (asksVolume w) leasing l
       (λ (k : Link). (k .until ≡ l .until)
-        ⊎ ((asksVolume w ≡ true) × (1 ≤ len) × (k .until ≡ leaseEnd (stamp .0) len drift) × (e .0 ≤ k .epoch .0)))
+      ⊎ ((asksVolume w ≡ true) × (1 ≤ len) × (k .until ≡ leaseEnd (stamp .0) len drift) × (e .0 ≤ k .epoch .0)))
       (λ t. cond-both (ltb 0 len) (longer (l .until) (leaseEnd (stamp .0) len drift)) (l .until)
-        (λ (u : Time). (u ≡ l .until)
-          ⊎ ((asksVolume w ≡ true) × (1 ≤ len) × (u ≡ leaseEnd (stamp .0) len drift) × (e .0 ≤ later (l .epoch) e .0)))
-        (λ s. elim (longer-from (l .until) (leaseEnd (stamp .0) len drift)) [
-            inl h ↦ inl h
-          | inr h ↦ inr (t, omega (arith, ltb-true 0 len s), h, later-to (l .epoch) e)
-          ])
-        (λ _. inl refl))
+      (λ (u : Time). (u ≡ l .until)
+      ⊎ ((asksVolume w ≡ true) × (1 ≤ len) × (u ≡ leaseEnd (stamp .0) len drift) × (e .0 ≤ later (l .epoch) e .0)))
+      (λ s. elim (longer-from (l .until) (leaseEnd (stamp .0) len drift)) [
+        | inl h ↦ inl h
+        | inr h ↦ inr (t, omega (arith, ltb-true 0 len s), h, later-to (l .epoch) e)
+      ])
+      (λ _. inl refl))
       (λ _. inl refl)
 
 -- ---- a link after a renewal answer
@@ -232,29 +232,29 @@ module _ (drift : ℕ) (w : Parts) (o : ℕ) (v : Version) (e : Epoch) (stamp : 
   -- what was got is as it was, or is what the answer gave
   pub answered-got : (p : ℕ) → (copyOf (answered drift w o v e stamp len ps l) p .got ≡ copyOf l p .got)
       ⊎ ((o ≡ p) × (asksObject w ≡ true) × (copyOf (answered drift w o v e stamp len ps l) p .got ≡ v)
-        × (copyOf (answered drift w o v e stamp len ps l) p .known ≡ v))
+      × (copyOf (answered drift w o v e stamp len ps l) p .known ≡ v))
   answered-got p = subst
       (λ (c : Copied). (c .got ≡ copyOf l p .got) ⊎ ((o ≡ p) × (asksObject w ≡ true) × (c .got ≡ v) × (c .known ≡ v)))
       (sym (answered-copy p))
       (elim (takes-from w o v e (hearsAll ps l) p) [
-          inl h ↦ inl (ap (λ (c : Copied). c .got) h ∙ hears-all-got ps l p)
+        | inl h ↦ inl (ap (λ (c : Copied). c .got) h ∙ hears-all-got ps l p)
         | inr h ↦ inr (h .0, h .1, ap (λ (c : Copied). c .got) (h .3), ap (λ (c : Copied). c .known) (h .3))
-        ])
+      ])
 
   -- and so is the epoch of the copy
   pub answered-epoch : (p : ℕ) → (copyOf (answered drift w o v e stamp len ps l) p .epoch ≡ copyOf l p .epoch)
       ⊎ ((o ≡ p) × (asksObject w ≡ true) × (copyOf (answered drift w o v e stamp len ps l) p .epoch ≡ e)
-        × (copyOf (answered drift w o v e stamp len ps l) p .known ≡ v))
+      × (copyOf (answered drift w o v e stamp len ps l) p .known ≡ v))
   answered-epoch p = subst
       (λ (c : Copied). (c .epoch ≡ copyOf l p .epoch) ⊎ ((o ≡ p) × (asksObject w ≡ true) × (c .epoch ≡ e) × (c .known ≡ v)))
       (sym (answered-copy p))
       (elim (takes-from w o v e (hearsAll ps l) p) [
-          inl h ↦ inl (ap (λ (c : Copied). c .epoch) h ∙ hears-all-epoch ps l p)
+        | inl h ↦ inl (ap (λ (c : Copied). c .epoch) h ∙ hears-all-epoch ps l p)
         | inr h ↦ elim (later-from (copyOf (hearsAll ps l) o .epoch) e) [
-            inl k ↦ inl (ap (λ (c : Copied). c .epoch) (h .3) ∙ k ∙ hears-all-epoch ps l o ∙ ap (λ (q : ℕ). copyOf l q .epoch) (h .0))
+          | inl k ↦ inl (ap (λ (c : Copied). c .epoch) (h .3) ∙ k ∙ hears-all-epoch ps l o ∙ ap (λ (q : ℕ). copyOf l q .epoch) (h .0))
           | inr k ↦ inr (h .0, h .1, ap (λ (c : Copied). c .epoch) (h .3) ∙ k, ap (λ (c : Copied). c .known) (h .3))
-          ]
-        ])
+        ]
+      ])
 
   -- the lease's epoch and end never fall
   pub answered-epoch-up : l .epoch .0 ≤ answered drift w o v e stamp len ps l .epoch .0
@@ -272,11 +272,11 @@ module _ (drift : ℕ) (w : Parts) (o : ℕ) (v : Version) (e : Epoch) (stamp : 
   -- the lease ends where it did, or where the one that the answer gave ends
   pub answered-until : (answered drift w o v e stamp len ps l .until ≡ l .until)
       ⊎ ((asksVolume w ≡ true) × (1 ≤ len) × (answered drift w o v e stamp len ps l .until ≡ leaseEnd (stamp .0) len drift)
-        × (e .0 ≤ answered drift w o v e stamp len ps l .epoch .0))
+      × (e .0 ≤ answered drift w o v e stamp len ps l .epoch .0))
   answered-until = elim (leases-from w e stamp len drift (takesCopy w o v e (hearsAll ps l))) [
-      inl h ↦ inl (h ∙ takes-lease w o v e (hearsAll ps l) .1 ∙ hears-all-lease ps l .1)
+    | inl h ↦ inl (h ∙ takes-lease w o v e (hearsAll ps l) .1 ∙ hears-all-lease ps l .1)
     | inr h ↦ inr h
-    ]
+  ]
 
 -- ---- which parts an acknowledgement says
 
@@ -318,12 +318,12 @@ module _ (L R : ℕ) where
       → link O i .epoch .0 ≤ link Q i .epoch .0
       → Q .clock ≡ O .clock
       → ((o : ℕ) → (copyOf (link Q i) o .got .0 ≡ copyOf (link O i) o .got .0)
-        ⊎ ((e : ℕ) × Any (Says i j (copy o (copyOf (link Q i) o .got .0) e)) log
-          × (copyOf (link Q i) o .got .0 ≤ copyOf (link Q i) o .known .0)))
+      ⊎ ((e : ℕ) × Any (Says i j (copy o (copyOf (link Q i) o .got .0) e)) log
+      × (copyOf (link Q i) o .got .0 ≤ copyOf (link Q i) o .known .0)))
       → ((o : ℕ) → (copyOf (link Q i) o .epoch .0 ≡ copyOf (link O i) o .epoch .0)
-        ⊎ ((v : ℕ) × Any (Says i j (copy o v (copyOf (link Q i) o .epoch .0))) log × (v ≤ copyOf (link Q i) o .known .0)))
+      ⊎ ((v : ℕ) × Any (Says i j (copy o v (copyOf (link Q i) o .epoch .0))) log × (v ≤ copyOf (link Q i) o .known .0)))
       → (link Q i .until .0 ≡ link O i .until .0)
-        ⊎ Grant R (viewOf I O i j log) (link Q i .until .0) (link Q i .epoch .0) (λ o. copyOf (link Q i) o .known .0)
+      ⊎ Grant R (viewOf I O i j log) (link Q i .until .0) (link Q i .epoch .0) (λ o. copyOf (link Q i) o .known .0)
       → ((p : Part) → Any (Says i j p) new → Fresh L (viewOf I O i j log) (viewOf I Q i j (log ++ new)) p)
       → Moves L R (viewOf I O i j log) (viewOf I Q i j (log ++ new))
   out-moves I O Q i j log new kn le cl go co un fr =
@@ -357,6 +357,7 @@ module _ (L R : ℕ) where
     where
       s : Tells R (viewOf I O i j log) (link O i) (link Q i)
       s = subst (λ (x : Link). Tells R (viewOf I O i j log) (link O i) x) (sym e) t
+
       fresh : (p : Part) → IsAnswer ps p → Fresh L (viewOf I O i j log) (viewOf I Q i j (log ++ new)) p
       fresh (asked t) h = absurd h
       fresh (copy o v d) h = absurd h
@@ -380,20 +381,24 @@ module _ (L R : ℕ) where
 
 pub good-good : (I : Input) (O : Output) (i j : ℕ) (log : List Message) (o : ℕ) → good O o i ≡ true → Good (viewOf I O i j log) o
 good-good I O i j log o h = record {
-    copied = some (c .got .0) (not-true (eqb (c .got .0) 0) (b .0));
-    sound = leb-true (c .known .0) (c .got .0) (d .0);
-    fresh = leb-true (link O i .epoch .0) (c .epoch .0) (d .1);
-    live = ltb-true (O .clock .0) (link O i .until .0) (a .1);
-  }
+  copied = some (c .got .0) (not-true (eqb (c .got .0) 0) (b .0));
+  sound = leb-true (c .known .0) (c .got .0) (d .0);
+  fresh = leb-true (link O i .epoch .0) (c .epoch .0) (d .1);
+  live = ltb-true (O .clock .0) (link O i .until .0) (a .1);
+}
   where
     c : Copied
     c = copyOf (link O i) o
+
     a : (sound O o i ≡ true) × (leased O i ≡ true)
     a = and-parts (sound O o i) (leased O i) h
+
     b : (not (eqb (c .got .0) 0) ≡ true) × ((leb (c .known .0) (c .got .0) && leb (link O i .epoch .0) (c .epoch .0)) ≡ true)
     b = and-parts (not (eqb (c .got .0) 0)) (leb (c .known .0) (c .got .0) && leb (link O i .epoch .0) (c .epoch .0)) (a .0)
+
     d : (leb (c .known .0) (c .got .0) ≡ true) × (leb (link O i .epoch .0) (c .epoch .0) ≡ true)
     d = and-parts (leb (c .known .0) (c .got .0)) (leb (link O i .epoch .0) (c .epoch .0)) (b .1)
+
     some : (n : ℕ) → eqb n 0 ≡ false → 1 ≤ n
     some n e = grind (arith, tells)
 
@@ -402,10 +407,10 @@ covered O o zero i h l = absurd (omega arith)
 covered O o (suc n) i h l =
     let b = and-parts (covers O o n) (leb (copyOf (link O n) o .known .0) (newestOf O o .version .0)) h in
     elim (cases-eq i n) [
-        inl e ↦ subst (λ (k : ℕ). copyOf (link O k) o .known .0 ≤ newestOf O o .version .0) (sym e)
-            (leb-true (copyOf (link O n) o .known .0) (newestOf O o .version .0) (b .1))
+      | inl e ↦ subst (λ (k : ℕ). copyOf (link O k) o .known .0 ≤ newestOf O o .version .0) (sym e)
+          (leb-true (copyOf (link O n) o .known .0) (newestOf O o .version .0) (b .1))
       | inr e ↦ covered O o n i (b .0) (omega arith)
-      ]
+    ]
 
 -- ---- one link changed
 
@@ -413,9 +418,9 @@ covered O o (suc n) i h l =
 changed : (P : Link → Link → Type 0) (ls : List Link) (a i : ℕ) (k : Link) → ((l : Link) → P l l) → P (getD ls a no-link) k
     → P (getD ls i no-link) (getD (set ls a k) i no-link)
 changed P ls a i k same new = elim (set-from ls a i k no-link) [
-    inl e ↦ subst (λ (m : Link). P (getD ls i no-link) m) (sym e) (same (getD ls i no-link))
+  | inl e ↦ subst (λ (m : Link). P (getD ls i no-link) m) (sym e) (same (getD ls i no-link))
   | inr h ↦ subst (λ (m : Link). P (getD ls i no-link) m) (sym (h .1)) (subst (λ (c : ℕ). P (getD ls c no-link) k) (h .0) new)
-  ]
+]
 
 -- ---- a renewal answer from input server a
 
@@ -457,28 +462,29 @@ module _ (drift a : ℕ) (w : Parts) (o : ℕ) (v : Version) (x : ℕ) (e : Epoc
   until-bound8 i = changed (λ l m. m .until .0 ≤ max (l .until .0) (leaseEnd (stamp .0) len drift .0)) (O .links) a i
       (answered drift w o v e stamp len ps (link O a)) (λ l. omega arith)
       (elim (answered-until drift w o v e stamp len ps (link O a)) [
-          inl h ↦ let k = ap (λ (t : Time). t .0) h in omega arith
+        | inl h ↦ let k = ap (λ (t : Time). t .0) h in omega arith
         | inr h ↦ let k = ap (λ (t : Time). t .0) (h .2) in omega arith
-        ])
+      ])
 
   -- the newest of an object is as it was, or is what the answer gave
   pub newest8 : (p : ℕ) → (newestOf (afterAnswer drift a w o v x e stamp len ps O) p ≡ newestOf O p)
       ⊎ ((p ≡ o) × (asksObject w ≡ true) × (newestOf (afterAnswer drift a w o v x e stamp len ps O) p .version ≡ v)
-        × (newestOf (afterAnswer drift a w o v x e stamp len ps O) p .value ≡ x))
+      × (newestOf (afterAnswer drift a w o v x e stamp len ps O) p .value ≡ x))
   unfolding afterAnswer
   newest8 p = cond-both (accepts w o v (hearsAll ps (link O a)) && ltb (newestOf O o .version .0) (v .0))
       (set (O .newest) o (record { version = v; value = x })) (O .newest)
       (λ (ns : List Newest). (getD ns p no-newest ≡ newestOf O p)
-        ⊎ ((p ≡ o) × (asksObject w ≡ true) × (getD ns p no-newest .version ≡ v) × (getD ns p no-newest .value ≡ x)))
+      ⊎ ((p ≡ o) × (asksObject w ≡ true) × (getD ns p no-newest .version ≡ v) × (getD ns p no-newest .value ≡ x)))
       (λ t. elim (set-from (O .newest) o p (record { version = v; value = x }) no-newest) [
-          inl h ↦ inl h
+        | inl h ↦ inl h
         | inr h ↦ inr (
-            sym (h .0),
-            and-parts (asksObject w) (leb (copyOf (hearsAll ps (link O a)) o .known .0) (v .0))
+          sym (h .0),
+          and-parts (asksObject w) (leb (copyOf (hearsAll ps (link O a)) o .known .0) (v .0))
               (and-parts (accepts w o v (hearsAll ps (link O a))) (ltb (newestOf O o .version .0) (v .0)) t .0) .0,
-            ap (λ (n : Newest). n .version) (h .1),
-            ap (λ (n : Newest). n .value) (h .1))
-        ])
+          ap (λ (n : Newest). n .version) (h .1),
+          ap (λ (n : Newest). n .value) (h .1),
+        )
+      ])
       (λ _. inl refl)
 
   -- the newest version never falls
@@ -488,26 +494,26 @@ module _ (drift a : ℕ) (w : Parts) (o : ℕ) (v : Version) (x : ℕ) (e : Epoc
       (set (O .newest) o (record { version = v; value = x })) (O .newest)
       (λ (ns : List Newest). newestOf O p .version .0 ≤ getD ns p no-newest .version .0)
       (λ t. elim (set-from (O .newest) o p (record { version = v; value = x }) no-newest) [
-          inl h ↦ subst (λ (n : Newest). newestOf O p .version .0 ≤ n .version .0) (sym h) (omega arith)
+        | inl h ↦ subst (λ (n : Newest). newestOf O p .version .0 ≤ n .version .0) (sym h) (omega arith)
         | inr h ↦ subst (λ (n : Newest). newestOf O p .version .0 ≤ n .version .0) (sym (h .1))
             (subst (λ (q : ℕ). newestOf O q .version .0 ≤ v .0) (h .0)
-              (let b = ltb-true (newestOf O o .version .0) (v .0)
-                  (and-parts (accepts w o v (hearsAll ps (link O a))) (ltb (newestOf O o .version .0) (v .0)) t .1) in
-                omega arith))
-        ])
+            (let b = ltb-true (newestOf O o .version .0) (v .0)
+            (and-parts (accepts w o v (hearsAll ps (link O a))) (ltb (newestOf O o .version .0) (v .0)) t .1) in
+            omega arith))
+      ])
       (λ _. omega arith)
 
   -- the lists keep their lengths
   pub shape8 : OutputShape O → OutputShape (afterAnswer drift a w o v x e stamp len ps O)
   unfolding afterAnswer
   shape8 s = record {
-      newest = cond-both (accepts w o v (hearsAll ps (link O a)) && ltb (newestOf O o .version .0) (v .0))
+    newest = cond-both (accepts w o v (hearsAll ps (link O a)) && ltb (newestOf O o .version .0) (v .0))
         (set (O .newest) o (record { version = v; value = x })) (O .newest) (λ (ns : List Newest). length ns ≡ 16)
         (λ _. length-set (O .newest) o (record { version = v; value = x }) ∙ s .newest) (λ _. s .newest);
-      links = length-set (O .links) a (answered drift w o v e stamp len ps (link O a)) ∙ s .links;
-      copies = λ i b. changed (λ l m. length (m .copies) ≡ length (l .copies)) (O .links) a i (answered drift w o v e stamp len ps (link O a))
+    links = length-set (O .links) a (answered drift w o v e stamp len ps (link O a)) ∙ s .links;
+    copies = λ i b. changed (λ l m. length (m .copies) ≡ length (l .copies)) (O .links) a i (answered drift w o v e stamp len ps (link O a))
         (λ l. refl) (answered-copies drift w o v e stamp len ps (link O a)) ∙ s .copies i b;
-    }
+  }
 
   -- the channel of another input server
   pub moves8-other : (L R : ℕ) (I : Input) (i j : ℕ) (log : List Message) (l : Pairs) → (a ≡ i → ⊥)
@@ -520,62 +526,70 @@ pub moves8-own : (L drift : ℕ) (w : Parts) (o : ℕ) (v : Version) (x : ℕ) (
     (I : Input) (O : Output) (i j : ℕ) (log : List Message)
     → OutputShape O → i < 8 → All (λ (p : Pair). p .object < 16) (listOf l) → In (RenewalAnswer i j w o v x e stamp len l) log
     → Moves L (1000 - drift) (viewOf I O i j log)
-        (viewOf I (afterAnswer drift i w o v x e stamp len (listOf l) O) i j (log ++ acknowledgement j i l))
+    (viewOf I (afterAnswer drift i w o v x e stamp len (listOf l) O) i j (log ++ acknowledgement j i l))
 moves8-own L drift w o v x e stamp len l I O i j log s b inside sent =
     link-moves L (1000 - drift) I O (afterAnswer drift i w o v x e stamp len (listOf l) O) i j log (acknowledgement j i l) k (listOf l)
-      (link-own8 drift i w o v x e stamp len (listOf l) O (omega arith))
-      (clock8 drift i w o v x e stamp len (listOf l) O)
-      (record {
-        known-up = answered-up drift w o v e stamp len (listOf l) (link O i);
-        epoch-up = answered-epoch-up drift w o v e stamp len (listOf l) (link O i);
-        got-from = got;
-        copy-from = copied;
-        until-from = until;
-      })
-      (λ p h. ack-says i j i j l p h .2)
-      told
+    (link-own8 drift i w o v x e stamp len (listOf l) O (omega arith))
+    (clock8 drift i w o v x e stamp len (listOf l) O)
+    (record {
+      known-up = answered-up drift w o v e stamp len (listOf l) (link O i);
+      epoch-up = answered-epoch-up drift w o v e stamp len (listOf l) (link O i);
+      got-from = got;
+      copy-from = copied;
+      until-from = until;
+    })
+    (λ p h. ack-says i j i j l p h .2)
+    told
   where
     k : Link
     k = answered drift w o v e stamp len (listOf l) (link O i)
+
     told : (q u : ℕ) → Has q u (listOf l) → u ≤ copyOf k q .known .0
     told = answered-told drift w o v e stamp len (listOf l) (link O i)
         (subst (λ (n : ℕ). All (λ (p : Pair). p .object < n) (listOf l)) (sym (s .copies i b)) inside)
+
     got : (p : ℕ) → (copyOf k p .got .0 ≡ copyOf (link O i) p .got .0)
         ⊎ ((d : ℕ) × Any (Says i j (copy p (copyOf k p .got .0) d)) log × (copyOf k p .got .0 ≤ copyOf k p .known .0))
     got p = elim (answered-got drift w o v e stamp len (listOf l) (link O i) p) [
-        inl h ↦ inl (ap (λ (y : Version). y .0) h)
+      | inl h ↦ inl (ap (λ (y : Version). y .0) h)
       | inr h ↦ let c = ap (λ (y : Version). y .0) (h .2) in let d = ap (λ (y : Version). y .0) (h .3) in
-          inr (e .0,
+          inr (
+            e .0,
             in-any (Says i j (copy p (copyOf k p .got .0) (e .0))) (RenewalAnswer i j w o v x e stamp len l) log sent
-              (refl, refl, inl (h .1, (sym (h .0), c, refl))),
-            omega arith)
-      ]
+                (refl, refl, inl (h .1, (sym (h .0), c, refl))),
+            omega arith,
+          )
+    ]
+
     copied : (p : ℕ) → (copyOf k p .epoch .0 ≡ copyOf (link O i) p .epoch .0)
         ⊎ ((u : ℕ) × Any (Says i j (copy p u (copyOf k p .epoch .0))) log × (u ≤ copyOf k p .known .0))
     copied p = elim (answered-epoch drift w o v e stamp len (listOf l) (link O i) p) [
-        inl h ↦ inl (ap (λ (y : Epoch). y .0) h)
+      | inl h ↦ inl (ap (λ (y : Epoch). y .0) h)
       | inr h ↦ let c = ap (λ (y : Epoch). y .0) (h .2) in let d = ap (λ (y : Version). y .0) (h .3) in
-          inr (v .0,
+          inr (
+            v .0,
             in-any (Says i j (copy p (v .0) (copyOf k p .epoch .0))) (RenewalAnswer i j w o v x e stamp len l) log sent
-              (refl, refl, inl (h .1, (sym (h .0), refl, c))),
-            omega arith)
-      ]
+                (refl, refl, inl (h .1, (sym (h .0), refl, c))),
+            omega arith,
+          )
+    ]
+
     until : (k .until .0 ≡ link O i .until .0)
         ⊎ Grant (1000 - drift) (viewOf I O i j log) (k .until .0) (k .epoch .0) (λ q. copyOf k q .known .0)
     until = elim (answered-until drift w o v e stamp len (listOf l) (link O i)) [
-        inl h ↦ inl (ap (λ (t : Time). t .0) h)
+      | inl h ↦ inl (ap (λ (t : Time). t .0) h)
       | inr h ↦ inr (record {
-            s = stamp .0;
-            l = len;
-            e = e .0;
-            ps = listOf l;
-            sent = in-any (Says i j (lease (stamp .0) len (e .0) (listOf l))) (RenewalAnswer i j w o v x e stamp len l) log sent
-              (refl, refl, inr (h .0, h .1, (refl, refl, refl, refl)));
-            ends = sym (ap (λ (t : Time). t .0) (h .2));
-            old = h .3;
-            told = told;
-          })
-      ]
+        s = stamp .0;
+        l = len;
+        e = e .0;
+        ps = listOf l;
+        sent = in-any (Says i j (lease (stamp .0) len (e .0) (listOf l))) (RenewalAnswer i j w o v x e stamp len l) log sent
+            (refl, refl, inr (h .0, h .1, (refl, refl, refl, refl)));
+        ends = sym (ap (λ (t : Time). t .0) (h .2));
+        old = h .3;
+        told = told;
+      })
+    ]
 
 -- ---- an invalidation from input server a
 
@@ -623,11 +637,11 @@ module _ (a o : ℕ) (v : Version) (O : Output) where
   pub shape9 : OutputShape O → OutputShape (afterInvalidation a o v O)
   unfolding afterInvalidation
   shape9 s = record {
-      newest = s .newest;
-      links = length-set (O .links) a (hears (told9 o v) (link O a)) ∙ s .links;
-      copies = λ i b. changed (λ l m. length (m .copies) ≡ length (l .copies)) (O .links) a i (hears (told9 o v) (link O a))
+    newest = s .newest;
+    links = length-set (O .links) a (hears (told9 o v) (link O a)) ∙ s .links;
+    copies = λ i b. changed (λ l m. length (m .copies) ≡ length (l .copies)) (O .links) a i (hears (told9 o v) (link O a))
         (λ l. refl) (length-set (link O a .copies) o (heard (told9 o v) (link O a))) ∙ s .copies i b;
-    }
+  }
 
   -- the channel of another input server
   pub moves9-other : (L R : ℕ) (I : Input) (i j : ℕ) (log : List Message) → (a ≡ i → ⊥)
@@ -640,17 +654,17 @@ pub moves9-own : (L R o : ℕ) (v : Version) (I : Input) (O : Output) (i j : ℕ
     → Moves L R (viewOf I O i j log) (viewOf I (afterInvalidation i o v O) i j (log ++ answersInvalidation j i o v))
 moves9-own L R o v I O i j log s b c =
     link-moves L R I O (afterInvalidation i o v O) i j log (answersInvalidation j i o v) (hears (told9 o v) (link O i)) (told9 o v ∷ [])
-      (link-own9 i o v O (omega arith))
-      (clock9 i o v O)
-      (record {
-        known-up = hears-up (told9 o v) (link O i);
-        epoch-up = omega arith;
-        got-from = λ p. inl (ap (λ (y : Version). y .0) (hears-got (told9 o v) (link O i) p));
-        copy-from = λ p. inl (ap (λ (y : Epoch). y .0) (hears-epoch (told9 o v) (link O i) p));
-        until-from = inl refl;
-      })
-      (λ p h. elim h [ inl y ↦ y .2 | inr y ↦ absurd y ])
-      told
+    (link-own9 i o v O (omega arith))
+    (clock9 i o v O)
+    (record {
+      known-up = hears-up (told9 o v) (link O i);
+      epoch-up = omega arith;
+      got-from = λ p. inl (ap (λ (y : Version). y .0) (hears-got (told9 o v) (link O i) p));
+      copy-from = λ p. inl (ap (λ (y : Epoch). y .0) (hears-epoch (told9 o v) (link O i) p));
+      until-from = inl refl;
+    })
+    (λ p h. elim h [ inl y ↦ y .2 | inr y ↦ absurd y ])
+    told
   where
     told : (q u : ℕ) → Has q u (told9 o v ∷ []) → u ≤ copyOf (hears (told9 o v) (link O i)) q .known .0
     told q u (inr h) = absurd h
@@ -689,14 +703,14 @@ module _ (sys : System) (b p n o : ℕ) (O : Output) where
   read-all P f g = cond-both (valid sys n o O) (ReadAnswer b p (newestOf O o .version) (newestOf O o .value) ∷ []) (renewals b n o O)
       (λ (new : List Message). All P new) (λ h. (f h, tt))
       (λ _. each-all P n (λ k. cond (good O o k) [] (renewal k ∷ []))
-        (λ k l. cond-both (good O o k) [] (renewal k ∷ []) (λ (new : List Message). All P new) (λ _. tt)
-          (λ _. (g k l (partsOf (not (sound O o k)) (not (leased O k))), tt))))
+      (λ k l. cond-both (good O o k) [] (renewal k ∷ []) (λ (new : List Message). All P new) (λ _. tt)
+      (λ _. (g k l (partsOf (not (sound O o k)) (not (leased O k))), tt))))
 
   pub read-length : 1 ≤ n → length (answersRead sys b p n o O) ≤ n
   read-length l = cond-both (valid sys n o O) (ReadAnswer b p (newestOf O o .version) (newestOf O o .value) ∷ []) (renewals b n o O)
       (λ (new : List Message). length new ≤ n) (λ _. omega arith)
       (λ _. each-length n (λ k. cond (good O o k) [] (renewal k ∷ []))
-        (λ k. cond-both (good O o k) [] (renewal k ∷ []) (λ (new : List Message). length new ≤ 1) (λ _. omega arith) (λ _. omega arith)))
+      (λ k. cond-both (good O o k) [] (renewal k ∷ []) (λ (new : List Message). length new ≤ 1) (λ _. omega arith) (λ _. omega arith)))
 
 pub moves5 : (L R : ℕ) (sys : System) (b p n o : ℕ) (I : Input) (O Q : Output) (i j : ℕ) (log : List Message) → (b ≡ j → Q ≡ O)
     → Moves L R (viewOf I O i j log) (viewOf I O i j (log ++ answersRead sys b p n o Q))

@@ -15,7 +15,7 @@ use Rattle.rules.specs.declared.kept.Copied.{Copied}
 use Rattle.rules.specs.declared.kept.Held.{Held}
 use Rattle.rules.specs.declared.kept.Link.{Link}
 use Rattle.rules.specs.declared.kept.Newest.{Newest}
-use Rattle.rules.specs.declared.message.Parts.{Parts}
+use Rattle.rules.specs.declared.parts.Parts.{Parts}
 use Rattle.rules.specs.declared.pairs.Pair.{Pair}
 use Rattle.rules.specs.declared.time.Time.{Time}
 use Rattle.rules.specs.declared.version.Version.{Version}

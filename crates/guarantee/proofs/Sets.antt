@@ -53,13 +53,13 @@ has-setOf (suc n) f i = go (f n) refl (has-setOf n f i)
       where
         joins : (x y : Bool) → x ≡ (ltb i n && f i) → y ≡ eqb n i → (x || y) ≡ (ltb i (suc n) && f i)
         joins x y p q = elim (cases-eq i n) [
-            inl d ↦ let g : f i ≡ true = ap f d ∙ e in grind (arith, tells)
+          | inl d ↦ let g : f i ≡ true = ap f d ∙ e in grind (arith, tells)
           | inr d ↦ grind (arith, tells)
-          ]
+        ]
     go false e h = h ∙ elim (cases-eq i n) [
-        inl d ↦ let g : f i ≡ false = ap f d ∙ e in grind (arith, tells)
+      | inl d ↦ let g : f i ≡ false = ap f d ∙ e in grind (arith, tells)
       | inr d ↦ grind (arith, tells)
-      ]
+    ]
 
 -- a set with one more member
 pub has-joined : (s k i : ℕ) → k < 64 → has (joined s k) i ≡ (has s i || eqb k i)
@@ -85,7 +85,7 @@ setOf-within (suc n) f =
     let p : 2 ^ n < 2 ^ suc n = pow-lt (omega arith) in
     let q : setOf n f < 2 ^ suc n = omega arith in
     cond-both (f n) (bitOr (setOf n f) (2 ^ n)) (setOf n f) (λ (x : ℕ). x < 2 ^ suc n)
-        (λ _. or-lt (suc n) (setOf n f) (2 ^ n) q p) (λ _. q)
+    (λ _. or-lt (suc n) (setOf n f) (2 ^ n) q p) (λ _. q)
 
 pub joined-within : (n s k : ℕ) → k < n → n ≤ 64 → s < 2 ^ n → joined s k < 2 ^ n
 joined-within n s k l m h = cond-both (ltb k 64) (bitOr s (2 ^ k)) s (λ (x : ℕ). x < 2 ^ n) (λ _. or-lt n s (2 ^ k) h (pow-lt l)) (λ _. h)

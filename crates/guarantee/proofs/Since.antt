@@ -60,7 +60,7 @@ requests-plain X f P i c unused = tt
 requests-plain X f P i c (asking a) = cond-both (knowsClock (P .inputs) (hearsClock i c a)) (writeRequests (P .counts .n) (getsVersion (hearsClock i c a))) []
     (λ (new : List Message). All X new)
     (λ _. each-all X (P .counts .n) (λ k. WriteRequest (a .operation) k (a .object) (getsVersion (hearsClock i c a) .version) (a .value) ∷ [])
-      (λ k l. (f .requests (a .operation) k (a .object) (getsVersion (hearsClock i c a) .version) (a .value), tt)))
+    (λ k l. (f .requests (a .operation) k (a .object) (getsVersion (hearsClock i c a) .version) (a .value), tt)))
     (λ _. tt)
 requests-plain X f P i c (sending w) = tt
 requests-plain X f P i c (reading r) = tt
@@ -72,7 +72,7 @@ pub news-plain : (X : Message → Type 0) → Plain X → (P : Params) (W : Worl
     → (a : Act)
     → ((p i : ℕ) → a ≡ hears (ClockQuestion p i) → X (ClockAnswer i p (W .inp i .lc)))
     → ((p j o : ℕ) → a ≡ hears (ReadRequest p j o) → valid (P .inputs) (P .counts .n) o (W .out j) ≡ true
-        → X (ReadAnswer j p (newestOf (W .out j) o .version) (newestOf (W .out j) o .value)))
+    → X (ReadAnswer j p (newestOf (W .out j) o .version) (newestOf (W .out j) o .value)))
     → All X (newsOf P a W)
 news-plain X f P W cq rq (ticks x y) ca ra = tt
 news-plain X f P W cq rq (writes o x) ca ra = each-all X (P .counts .n) (λ i. ClockQuestion (W .begun + 1) i ∷ []) (λ i l. (cq i, tt))
@@ -124,7 +124,7 @@ module _ (P : Params) (small : Small P) (in-lawful : Lawful (P .inputs)) (out-la
       let g = of-setOf (P .counts .n) (good (W .out j) o) (x .0) (x .2) in
       let n = of-setOf (P .inputs .count) (λ i. has (namedBy N i) j) (x .0) (x .3) in
       let z = pass (P .lease) (slow P) (view W (x .0) j) o w (k .chans (x .0) j (g .0) l) (named (x .0) j (n .1) (g .0) l .fence)
-            (Outs.good-good (W .inp (x .0)) (W .out j) (x .0) j (W .sent) o (g .1)) in
+      (Outs.good-good (W .inp (x .0)) (W .out j) (x .0) j (W .sent) o (g .1)) in
       omega (arith, Outs.covered (W .out j) o (P .counts .n) (x .0) (p .0) (g .0))
 
   -- ---- a read that began later
@@ -179,13 +179,14 @@ module _ (P : Params) (small : Small P) (in-lawful : Lawful (P .inputs)) (out-la
     where
       N : List MemberSet
       N = settled .named
+
       ends : May P (hears (ReadAnswer (e .from) q (e .pair-version) (e .pair-value))) W → w ≤ v
       ends h =
           let ok : ReadingOk W q (e .read) = subst (OpOk P W q) (e .op) (k .ops q (s .begun)) in
           let r = heard-next P small in-lawful W k (e .from) q (e .pair-version) (e .pair-value) h (e .read) (e .op) ok in
           let t = since-read q o w N W k (hears (ReadAnswer (e .from) q (e .pair-version) (e .pair-value))) h s in
           let x = out-lawful .meet (hearsPair (e .from) (e .pair-version) (e .pair-value) (e .read) .senders)
-                (setOf (P .outputs .count) (counts (P .inputs) (P .inputs .count) N)) (e .complete) (settled .enough) in
+          (setOf (P .outputs .count) (counts (P .inputs) (P .inputs .count) N)) (e .complete) (settled .enough) in
           let c = of-setOf (P .outputs .count) (counts (P .inputs) (P .inputs .count) N) (x .0) (x .3) in
           let u = r .heard (x .0) (x .2) in
           let l : w ≤ u .0 .0 = all-at (Late q o w N) (ReadAnswer (x .0) q (u .0) (u .1)) _ (t .said) (u .2) refl (let z = small .m-is in let y = x .1 in omega arith) (c .1) in
@@ -238,10 +239,13 @@ module _ (P : Params) (small : Small P) (in-lawful : Lawful (P .inputs)) (out-la
     where
       N : List MemberSet
       N = settled .named
+
       i : ℕ
       i = e .from
+
       wise : (n c : ℕ) → In (ClockAnswer n q c) (W .sent) → has (namedBy N n) j ≡ true → n < P .counts .n → w / 65536 ≤ c
       wise n c h t b = all-at (Wise q w N j) (ClockAnswer n q c) (W .sent) (s .said) h refl t b
+
       gets : May P (hears (ClockAnswer i (e .named) (e .clock))) W → w < v .0
       gets h =
           let f = fits-clock (P .counts) i (e .named) (e .clock) (h .1) in
@@ -251,8 +255,8 @@ module _ (P : Params) (small : Small P) (in-lawful : Lawful (P .inputs)) (out-la
           let t = of-setOf (P .inputs .count) (λ n. has (namedBy N n) j) (y .0) (y .3) in
           let b : y .0 < P .counts .n = let z = small .n-is in let u = y .1 in omega arith in
           let top : w / 65536 ≤ max (e .ask .clock) (e .clock) = elim (of-joined (e .ask .senders) i (y .0) (let z = f .sender in let u = small .n-most in omega arith) (y .2)) [
-              inl u ↦ let r = ok .clocks (y .0) u in omega (arith, wise (y .0) (r .0) (r .1) (t .1) b, r .2)
+            | inl u ↦ let r = ok .clocks (y .0) u in omega (arith, wise (y .0) (r .0) (r .1) (t .1) b, r .2)
             | inr u ↦ omega (arith, wise i (e .clock) h′ (subst (λ (n : ℕ). has (namedBy N n) j ≡ true) (sym u) (t .1)) (f .sender))
-            ] in
+          ] in
           let d : (max (e .ask .clock) (e .clock) + 1) * 65536 + e .ask .operation ≡ v .0 = ap (λ (u : Version). u .0) (e .version) in
           omega arith

@@ -94,9 +94,9 @@ module _ (S : Story) (in-lawful : Lawful (S .inputs)) (out-lawful : Lawful (S .o
 
   live-next : (P : Params) (t : ℕ) → Live P (before S t) → Live P (before S (suc t))
   live-next P t l = elim (happens P t l) [
-      inl h ↦ subst (Live P) (sym (stayed (before S t) (outcome-at t) h)) l
+    | inl h ↦ subst (Live P) (sym (stayed (before S t) (outcome-at t) h)) l
     | inr h ↦ live-accepted P (before S t) (actOf (before S t) (callAt S t)) (outcome-at t) l h
-    ]
+  ]
 
   -- what every accepted call keeps holds from one call to any later one
   carry : (P : Params) (X : World → Type 0) → ((W : World) → Small P → Lawful (P .inputs) → Lawful (P .outputs) → Kept P W → (a : Act) → May P a W → X W → X (run P a W))
@@ -104,16 +104,19 @@ module _ (S : Story) (in-lawful : Lawful (S .inputs)) (out-lawful : Lawful (S .o
   carry P X step t zero h l x = let e : t ≡ 0 = omega arith in
       (subst (λ (k : ℕ). Live P (before S k)) e l, subst (λ (k : ℕ). X (worldOf (before S k))) e x)
   carry P X step t (suc u) h l x = elim (cases-lt u t) [
-      inl b ↦ let e : t ≡ suc u = omega arith in
+    | inl b ↦ let e : t ≡ suc u = omega arith in
         (subst (λ (k : ℕ). Live P (before S k)) e l, subst (λ (k : ℕ). X (worldOf (before S k))) e x)
     | inr b ↦ let r = carry P X step t u b l x in next (r .0) (r .1)
-    ]
+  ]
     where
       next : Live P (before S u) → X (worldOf (before S u)) → Live P (before S (suc u)) × X (worldOf (before S (suc u)))
-      next l x = (live-next P u l, elim (happens P u l) [
-          inl h ↦ subst (λ (s : State). X (worldOf s)) (sym (stayed (before S u) (outcome-at u) h)) x
-        | inr h ↦ subst X (sym (h .world)) (step (worldOf (before S u)) (l .small) (in-of P (before S u) l) (out-of P (before S u) l) (l .kept) (actOf (before S u) (callAt S u)) (h .may) x)
-        ])
+      next l x = (
+        live-next P u l,
+        elim (happens P u l) [
+          | inl h ↦ subst (λ (s : State). X (worldOf s)) (sym (stayed (before S u) (outcome-at u) h)) x
+          | inr h ↦ subst X (sym (h .world)) (step (worldOf (before S u)) (l .small) (in-of P (before S u) l) (out-of P (before S u) l) (l .kept) (actOf (before S u) (callAt S u)) (h .may) x)
+        ],
+      )
 
   -- ---- where the operations and requests of a world come from
 
@@ -208,9 +211,11 @@ module _ (S : Story) (in-lawful : Lawful (S .inputs)) (out-lawful : Lawful (S .o
         old : (a : Act) (p : ℕ) → Begun W p → OpTraced (suc t) p (run P a W .op p)
         old a p b = ops-up P (l .small) W (l .kept) (OpTraced (suc t) p) (λ i c y. traced-clock P (suc t) p i c y) (λ i s y. traced-write P (suc t) p i s y)
             (λ j v x y. traced-read P (suc t) p j v x y) a p b (op-later t p (W .op p) (T .ops p b))
+
         first : (p : ℕ) (y : Operation) → OpTraced (suc t) (W .begun + 1) y → (1 ≤ p) × (p ≤ W .begun + 1) → OpTraced (suc t) p (at (W .begun + 1) y (W .op) p)
         first p y n b = at-cases (OpTraced (suc t) p) (W .begun + 1) p y (W .op) (λ e. subst (λ (z : ℕ). OpTraced (suc t) z y) e n)
             (λ e. op-later t p (W .op p) (T .ops p (b .0, let z = b .1 in omega arith)))
+
         heard : (m : Message) (p : ℕ) → Begun (run P (hears m) W) p → OpTraced (suc t) p (run P (hears m) W .op p)
         heard (ClockQuestion q i) p b = old (hears (ClockQuestion q i)) p b
         heard (ClockAnswer i q c) p b = old (hears (ClockAnswer i q c)) p b
@@ -222,6 +227,7 @@ module _ (S : Story) (in-lawful : Lawful (S .inputs)) (out-lawful : Lawful (S .o
         heard (RenewalAnswer i j a o v x e s n k) p b = old (hears (RenewalAnswer i j a o v x e s n k)) p b
         heard (Invalidation i j o v) p b = old (hears (Invalidation i j o v)) p b
         heard (InvalidationAnswer j i k) p b = old (hears (InvalidationAnswer j i k)) p b
+
         go : (c : Call) → callAt S t ≡ c → Accepted P (before S t) (actOf (before S t) c) (outcome-at t)
             → (p : ℕ) → Begun (run P (actOf (before S t) c) W) p → OpTraced (suc t) p (run P (actOf (before S t) c) W .op p)
         go (to-open k lease drift clocks) e h p b = op-later t p (W .op p) (T .ops p b)
@@ -245,19 +251,24 @@ module _ (S : Story) (in-lawful : Lawful (S .inputs)) (out-lawful : Lawful (S .o
     new-traced h (ClockAnswer i p c) n = tt
     new-traced h (WriteRequest p i o v x) n =
         let e = gets-version P W p i o v x (actOf (before S t) (callAt S t)) n in
-        let d = delivers (callAt S t) (e .from) (e .named) (e .clock) (e .act) in
-        ((begins e .0, let z = begins e .1 in omega arith, begins e .2),
-          (t, omega arith, record {
-            made = in-story;
-            number = d .0;
-            call = d .1;
-            input = i;
-            object = o;
-            version = v;
-            value = x;
-            is = refl;
-            logged = subst (λ (new : List Message). Has new (WriteRequest p i o v x)) (sym (h .news)) (in-has (WriteRequest p i o v x) _ n);
-          }))
+        let d = delivers (callAt S t) (e .from) (e .named) (e .clock) (e .act) in (
+          (begins e .0, let z = begins e .1 in omega arith, begins e .2),
+          (
+            t,
+            omega arith,
+            record {
+              made = in-story;
+              number = d .0;
+              call = d .1;
+              input = i;
+              object = o;
+              version = v;
+              value = x;
+              is = refl;
+              logged = subst (λ (new : List Message). Has new (WriteRequest p i o v x)) (sym (h .news)) (in-has (WriteRequest p i o v x) _ n);
+            },
+          ),
+        )
       where
         begins : GetsVersion P W (actOf (before S t) (callAt S t)) p o v x → (b : ℕ) × (b < t) × BeginsWrite S b p o x
         begins e =
@@ -265,9 +276,12 @@ module _ (S : Story) (in-lawful : Lawful (S .inputs)) (out-lawful : Lawful (S .o
             let b : Begun W (e .named) = all-at (MsgOk P W) (ClockAnswer (e .from) (e .named) (e .clock)) (W .sent) (l .kept .msgs) (may .0) in
             let ok : AskingOk W (e .named) (e .ask) = subst (OpOk P W (e .named)) (e .op) (l .kept .ops (e .named) b) in
             let same : e .named ≡ p = sym (ok .own) ∙ e .own in
-            let r : (b : ℕ) × (b < t) × BeginsWrite S b (e .named) (e .ask .object) (e .ask .value) = subst (OpTraced t (e .named)) (e .op) (T .ops (e .named) b) in
-            (r .0, r .1, subst (λ (q : ℕ). BeginsWrite S (r .0) q o x) same
-              (subst (λ (z : ℕ). BeginsWrite S (r .0) (e .named) z x) (e .object) (subst (λ (z : ℕ). BeginsWrite S (r .0) (e .named) (e .ask .object) z) (e .value) (r .2))))
+            let r : (b : ℕ) × (b < t) × BeginsWrite S b (e .named) (e .ask .object) (e .ask .value) = subst (OpTraced t (e .named)) (e .op) (T .ops (e .named) b) in (
+              r .0,
+              r .1,
+              subst (λ (q : ℕ). BeginsWrite S (r .0) q o x) same
+                  (subst (λ (z : ℕ). BeginsWrite S (r .0) (e .named) z x) (e .object) (subst (λ (z : ℕ). BeginsWrite S (r .0) (e .named) (e .ask .object) z) (e .value) (r .2))),
+            )
     new-traced h (WriteAnswer i p s) n = tt
     new-traced h (ReadRequest p j o) n = tt
     new-traced h (ReadAnswer j p v x) n = tt
@@ -278,14 +292,14 @@ module _ (S : Story) (in-lawful : Lawful (S .inputs)) (out-lawful : Lawful (S .o
 
     traced-next : Traced (suc t) (worldOf (before S (suc t)))
     traced-next = elim (happens P t l) [
-        inl h ↦ subst (λ (s : State). Traced (suc t) (worldOf s)) (sym (stayed (before S t) (outcome-at t) h)) (traced-later t W T)
+      | inl h ↦ subst (λ (s : State). Traced (suc t) (worldOf s)) (sym (stayed (before S t) (outcome-at t) h)) (traced-later t W T)
       | inr h ↦ subst (Traced (suc t)) (sym (h .world)) (record {
-            ops = ops-next (callAt S t) refl h;
-            msgs = subst (λ (ms : List Message). All (MsgTraced (suc t)) ms) (sym (sent-is P W (actOf (before S t) (callAt S t))))
-                (all-++ (MsgTraced (suc t)) (W .sent) (newsOf P (actOf (before S t) (callAt S t)) W) (traced-later t W T .msgs)
-                  (all-from (MsgTraced (suc t)) (newsOf P (actOf (before S t) (callAt S t)) W) (new-traced h)));
-          })
-      ]
+        ops = ops-next (callAt S t) refl h;
+        msgs = subst (λ (ms : List Message). All (MsgTraced (suc t)) ms) (sym (sent-is P W (actOf (before S t) (callAt S t))))
+            (all-++ (MsgTraced (suc t)) (W .sent) (newsOf P (actOf (before S t) (callAt S t)) W) (traced-later t W T .msgs)
+            (all-from (MsgTraced (suc t)) (newsOf P (actOf (before S t) (callAt S t)) W) (new-traced h)));
+      })
+    ]
 
   -- ---- every call of the story
 
@@ -297,42 +311,42 @@ module _ (S : Story) (in-lawful : Lawful (S .inputs)) (out-lawful : Lawful (S .o
   pub fine : (t : ℕ) → t ≤ calls → (before S t .frame .isOpen ≡ false) ⊎ Known t
   fine zero h = inl closed
   fine (suc t) h = elim (fine t (omega arith)) [
-      inl e ↦ elim (closed-step (S .inputs) (S .outputs) in-lawful out-lawful (before S t) e (callAt S t)) [
-          inl r ↦ inl (ap (λ (s : State). s .frame .isOpen) (stayed (before S t) (outcome-at t) r) ∙ e)
-        | inr r ↦ inr (record {
-              P = paramsOf (S .inputs) (S .outputs) (before S (suc t));
-              live = record { is-open = r .is-open; params = refl; framed = r .framed; small = r .small; kept = r .kept };
-              traced = record {
-                ops = λ p b. absurd (let z = r .none-begun in let y = b .0 in let x = b .1 in omega arith);
-                msgs = subst (λ (n : ℕ). All (MsgTraced (suc t)) (take n (before S (suc t) .log))) (sym (r .none-made)) tt;
-              };
-            })
-        ]
-    | inr k ↦ inr (record {
-          P = k .P;
-          live = live-next (k .P) t (k .live);
-          traced = traced-next (k .P) t (omega arith) (k .live) (k .traced);
-        })
+    | inl e ↦ elim (closed-step (S .inputs) (S .outputs) in-lawful out-lawful (before S t) e (callAt S t)) [
+      | inl r ↦ inl (ap (λ (s : State). s .frame .isOpen) (stayed (before S t) (outcome-at t) r) ∙ e)
+      | inr r ↦ inr (record {
+        P = paramsOf (S .inputs) (S .outputs) (before S (suc t));
+        live = record { is-open = r .is-open; params = refl; framed = r .framed; small = r .small; kept = r .kept };
+        traced = record {
+          ops = λ p b. absurd (let z = r .none-begun in let y = b .0 in let x = b .1 in omega arith);
+          msgs = subst (λ (n : ℕ). All (MsgTraced (suc t)) (take n (before S (suc t) .log))) (sym (r .none-made)) tt;
+        };
+      })
     ]
+    | inr k ↦ inr (record {
+      P = k .P;
+      live = live-next (k .P) t (k .live);
+      traced = traced-next (k .P) t (omega arith) (k .live) (k .traced);
+    })
+  ]
 
   -- ---- what a call said
 
   -- a call that said something else than a refusal or an acceptance was made on an open field
   pub known-at : (t : ℕ) → t < calls → ((n : ℕ) → saidAt S t ≡ refused n → ⊥) → (saidAt S t ≡ accepted → ⊥) → Known t
   known-at t h no-refusal no-opening = elim (fine t (omega arith)) [
-      inr k ↦ k
+    | inr k ↦ k
     | inl e ↦ elim (closed-step (S .inputs) (S .outputs) in-lawful out-lawful (before S t) e (callAt S t)) [
-        inl r ↦ absurd (no-refusal (r .0) (ap (λ (x : Outcome). x .said) (r .1)))
+      | inl r ↦ absurd (no-refusal (r .0) (ap (λ (x : Outcome). x .said) (r .1)))
       | inr r ↦ absurd (no-opening (r .said))
-      ]
     ]
+  ]
 
   pub accepted-at : (P : Params) (t : ℕ) → Live P (before S t) → ((n : ℕ) → saidAt S t ≡ refused n → ⊥)
       → Accepted P (before S t) (actOf (before S t) (callAt S t)) (outcome-at t)
   accepted-at P t l no-refusal = elim (happens P t l) [
-      inl r ↦ absurd (no-refusal (r .0) (ap (λ (x : Outcome). x .said) (r .1)))
+    | inl r ↦ absurd (no-refusal (r .0) (ap (λ (x : Outcome). x .said) (r .1)))
     | inr h ↦ h
-    ]
+  ]
 
   -- ---- beginnings
 
@@ -359,17 +373,17 @@ module _ (S : Story) (in-lawful : Lawful (S .inputs)) (out-lawful : Lawful (S .o
   -- an operation that is begun when a call finds it began with an earlier call
   earlier : (t u q : ℕ) → u < calls → saidAt S u ≡ began q → (P : Params) → Live P (before S t) → q ≤ world t .begun → u < t
   earlier t u q h e P l b = elim (cases-lt u t) [
-      inl x ↦ x
+    | inl x ↦ x
     | inr x ↦ absurd (let s = start u q h e in let y = s .number in let z = begun-grow P t u x l in omega arith)
-    ]
+  ]
 
   -- no operation begins twice
   once : (b c p : ℕ) → b < calls → c < calls → saidAt S b ≡ began p → saidAt S c ≡ began p → b ≡ c
   once b c p hb hc eb ec = elim (cases-order b c) [
-      inl x ↦ x
+    | inl x ↦ x
     | inr (inl x) ↦ absurd (apart b c hb hc eb ec x)
     | inr (inr x) ↦ absurd (apart c b hc hb ec eb x)
-    ]
+  ]
     where
       apart : (b c : ℕ) → b < calls → c < calls → saidAt S b ≡ began p → saidAt S c ≡ began p → b < c → ⊥
       apart b c hb hc eb ec x =
@@ -448,25 +462,29 @@ module _ (S : Story) (in-lawful : Lawful (S .inputs)) (out-lawful : Lawful (S .o
 
   getting : (t p v : ℕ) → Gets S t p v → Getting t p v
   getting t p v g = elim (fine t (let z = g .made in omega arith)) [
-      inl e ↦ absurd (closed-logs e)
+    | inl e ↦ absurd (closed-logs e)
     | inr k ↦ elim (happens (k .P) t (k .live)) [
-        inl r ↦ absurd (unlogged (r .0) (r .1))
+      | inl r ↦ absurd (unlogged (r .0) (r .1))
       | inr a ↦ made k a
-      ]
     ]
+  ]
     where
       m : Message
       m = WriteRequest p (g .input) (g .object) (g .version) (g .value)
+
       empty : (l : List Message) → l ≡ [] → Has l m → ⊥
       empty l e h = has-in m [] (subst (λ (k : List Message). Has k m) e h)
+
       unlogged : (n : ℕ) → outcome-at t ≡ refuse n (before S t) → ⊥
       unlogged n e = empty (loggedAt S t) (ap (λ (x : Outcome). part (before S t .made) (x .after .made) (x .after .log)) e ∙ none-logged (before S t .made) (before S t .log)) (g .logged)
+
       closed-logs : before S t .frame .isOpen ≡ false → ⊥
       closed-logs e = elim (closed-step (S .inputs) (S .outputs) in-lawful out-lawful (before S t) e (callAt S t)) [
-          inl r ↦ unlogged (r .0) (r .1)
+        | inl r ↦ unlogged (r .0) (r .1)
         | inr r ↦ empty (loggedAt S t) (ap (λ (k : ℕ). take (k - before S t .made) (drop (before S t .made) (before S (suc t) .log))) (r .none-made)
             ∙ (let z : 0 - before S t .made ≡ 0 = omega arith in ap (λ (k : ℕ). take k (drop (before S t .made) (before S (suc t) .log))) z)) (g .logged)
-        ]
+      ]
+
       made : (k : Known t) → Accepted (k .P) (before S t) (actOf (before S t) (callAt S t)) (outcome-at t) → Getting t p v
       made k a =
           let n : In m (newsOf (k .P) (actOf (before S t) (callAt S t)) (world t)) = subst (λ (l : List Message). In m l) (a .news) (has-in m (loggedAt S t) (g .logged)) in
@@ -496,8 +514,8 @@ module _ (S : Story) (in-lawful : Lawful (S .inputs)) (out-lawful : Lawful (S .o
       let r : (c : ℕ) × (c < t) × BeginsWrite S c p (e .how .write .object) (e .how .write .value) = subst (OpTraced t p) (e .how .op) (e .known .traced .ops p (e .begun)) in
       let d = same-write (r .0) b p (e .how .write .object) (e .how .write .value) o x (r .2) f .0 in
       let s : Settled P (world (suc t)) o w = subst (λ (W : World). Settled P W o w) (sym (e .step .world))
-            (subst (λ (z : ℕ). Settled P (run P (actOf (before S t) (callAt S t)) (world t)) z w) d
-              (settles P (l .small) (in-of P (before S t) l) (out-of P (before S t) l) (world t) (l .kept) (actOf (before S t) (callAt S t)) p w y (e .step .may) (e .how))) in
+      (subst (λ (z : ℕ). Settled P (run P (actOf (before S t) (callAt S t)) (world t)) z w) d
+      (settles P (l .small) (in-of P (before S t) l) (out-of P (before S t) l) (world t) (l .kept) (actOf (before S t) (callAt S t)) p w y (e .step .may) (e .how))) in
       carry P (λ W. Settled P W o w) (λ W small _ _ k a m x. settled-grows P W (run P a W) o w (grows P small W k a m) x) (suc t) u h (live-next P t l) s
 
   -- ---- a read never goes behind
@@ -535,12 +553,12 @@ module _ (S : Story) (in-lawful : Lawful (S .inputs)) (out-lawful : Lawful (S .o
       let num : q ≡ world u .begun + 1 = begins-next P (world u) q (reads o) (sym (a .said) ∙ fsaid) .0 in
       let g = grows P sm (world u) (l .kept) (reads o) tt in
       let since0 : SinceRead P sm il ol q o w N (run P (reads o) (world u)) = record {
-            stand = λ i j c k n. g .stands i j o w k n (s .1 .stand i j c k n);
-            begun = (omega arith, omega arith);
-            said = all-++ (Late P sm il ol q o w N) (world u .sent) (readRequests (world u .begun + 1) o (P .counts .m))
-                (unnamed-late P sm il ol (world u) (l .kept) q o w N num)
-                (each-all (Late P sm il ol q o w N) (P .counts .m) (λ j. ReadRequest (world u .begun + 1) j o ∷ []) (λ j _. ((λ _. refl), tt)));
-          } in
+        stand = λ i j c k n. g .stands i j o w k n (s .1 .stand i j c k n);
+        begun = (omega arith, omega arith);
+        said = all-++ (Late P sm il ol q o w N) (world u .sent) (readRequests (world u .begun + 1) o (P .counts .m))
+            (unnamed-late P sm il ol (world u) (l .kept) q o w N num)
+            (each-all (Late P sm il ol q o w N) (P .counts .m) (λ j. ReadRequest (world u .begun + 1) j o ∷ []) (λ j _. ((λ _. refl), tt)));
+      } in
       let since1 : SinceRead P sm il ol q o w N (world (suc u)) = subst (SinceRead P sm il ol q o w N) (sym (a .world)) since0 in
       let R = end-of-read e q v z er in
       let u<e : u < e = earlier e u q (fr .made) fsaid (R .known .P) (R .known .live) (R .begun .1) in
@@ -550,7 +568,7 @@ module _ (S : Story) (in-lawful : Lawful (S .inputs)) (out-lawful : Lawful (S .o
       let ae = accepted-at P e le (λ n g. never (cc)) in
       let re = read-ends P (world e) q v z (actOf (before S e) (callAt S e)) (sym (ae .said) ∙ esaid) in
       read-not-behind P sm il ol q o w (world e) (le .kept) (actOf (before S e) (callAt S e)) v z (ae .may)
-        (record { named = N; enough = s .1 .enough; stand = c .1 .stand }) (c .1) re
+      (record { named = N; enough = s .1 .enough; stand = c .1 .stand }) (c .1) re
 
   -- ---- a later write gets a higher version
 
@@ -590,12 +608,12 @@ module _ (S : Story) (in-lawful : Lawful (S .inputs)) (out-lawful : Lawful (S .o
       let num : q ≡ world u .begun + 1 = begins-next P (world u) q (writes o z) (sym (a .said) ∙ fsaid) .0 in
       let gr = grows P sm (world u) (l .kept) (writes o z) tt in
       let since0 : SinceWrite P sm il ol q o w N j (run P (writes o z) (world u)) = record {
-            stand = λ i b c k n. gr .stands i b o w k n (s .1 .stand i b c k n);
-            begun = (omega arith, omega arith);
-            said = all-++ (Wise P sm il ol q w N j) (world u .sent) (clockQuestions (world u .begun + 1) (P .counts .n))
-                (unnamed-wise P sm il ol (world u) (l .kept) q w N j num)
-                (each-all (Wise P sm il ol q w N j) (P .counts .n) (λ i. ClockQuestion (world u .begun + 1) i ∷ []) (λ i _. (tt, tt)));
-          } in
+        stand = λ i b c k n. gr .stands i b o w k n (s .1 .stand i b c k n);
+        begun = (omega arith, omega arith);
+        said = all-++ (Wise P sm il ol q w N j) (world u .sent) (clockQuestions (world u .begun + 1) (P .counts .n))
+            (unnamed-wise P sm il ol (world u) (l .kept) q w N j num)
+            (each-all (Wise P sm il ol q w N j) (P .counts .n) (λ i. ClockQuestion (world u .begun + 1) i ∷ []) (λ i _. (tt, tt)));
+      } in
       let since1 : SinceWrite P sm il ol q o w N j (world (suc u)) = subst (SinceWrite P sm il ol q o w N j) (sym (a .world)) since0 in
       let G = getting g q v gq in
       let u<g : u < g = earlier g u q (fq .made) fsaid (G .known .P) (G .known .live) (G .begun .1) in
@@ -603,10 +621,10 @@ module _ (S : Story) (in-lawful : Lawful (S .inputs)) (out-lawful : Lawful (S .o
       let lg = d .0 in
       let same : G .known .P ≡ P = sym (G .known .live .params) ∙ lg .params in
       let how : GetsVersion P (world g) (actOf (before S g) (callAt S g)) q (G .object) (G .version) (G .value) =
-            subst (λ (Q : Params). GetsVersion Q (world g) (actOf (before S g) (callAt S g)) q (G .object) (G .version) (G .value)) same (G .how) in
+      subst (λ (Q : Params). GetsVersion Q (world g) (actOf (before S g) (callAt S g)) q (G .object) (G .version) (G .value)) same (G .how) in
       let may : May P (actOf (before S g) (callAt S g)) (world g) = subst (λ (Q : Params). May Q (actOf (before S g) (callAt S g)) (world g)) same (G .step .may) in
       let r = version-rises P sm il ol q o w (world g) (lg .kept) (actOf (before S g) (callAt S g)) (G .object) (G .version) (G .value) may
-            (record { named = N; enough = s .1 .enough; stand = d .1 .stand }) j j<m c (d .1) how (G .named) in
+      (record { named = N; enough = s .1 .enough; stand = d .1 .stand }) j j<m c (d .1) how (G .named) in
       omega (arith, G .is)
 
   -- ---- what a read gives was written
@@ -616,41 +634,53 @@ module _ (S : Story) (in-lawful : Lawful (S .inputs)) (out-lawful : Lawful (S .o
     where
       E : EndOfRead e q v z
       E = end-of-read e q v z er
+
       P : Params
       P = E .known .P
+
       l : Live P (before S e)
       l = E .known .live
+
       R : ReadEnds P (world e) (actOf (before S e) (callAt S e)) q v z
       R = E .how
+
       W : World
       W = world e
+
       pair : Reading
       pair = hearsPair (R .from) (R .pair-version) (R .pair-value) (R .read)
+
       may : May P (hears (ReadAnswer (R .from) q (R .pair-version) (R .pair-value))) W
       may = subst (λ (b : Act). May P b W) (R .act) (E .step .may)
+
       ok : ReadingOk W q (R .read)
       ok = subst (OpOk P W q) (R .op) (l .kept .ops q (E .begun))
+
       V : World
       V = run P (hears (ReadAnswer (R .from) q (R .pair-version) (R .pair-value))) W
+
       heard : ReadingOk V q pair
       heard = heard-next P (l .small) (in-of P (before S e) l) W (l .kept) (R .from) q (R .pair-version) (R .pair-value) may (R .read) (R .op) ok
+
       same : pair .object ≡ o
       same =
           let r : (b : ℕ) × (b < e) × BeginsRead S b q (R .read .object) = subst (OpTraced e q) (R .op) (E .known .traced .ops q (E .begun)) in
           same-read (r .0) u q (R .read .object) o (r .2) fr
+
       high : 65536 ≤ pair .version .0
       high = let f = fits-pair (P .counts) (R .from) q (R .pair-version) (R .pair-value) (may .1) .1 in
           elim (pair-from (R .from) (R .pair-version) (R .pair-value) (R .read)) [
-            inl d ↦ let c = ap (λ (n : Version). n .0) (d .0) in let b = d .2 in omega arith
-          | inr d ↦ let c = ap (λ (n : Version). n .0) (d .0) in omega arith
+            | inl d ↦ let c = ap (λ (n : Version). n .0) (d .0) in let b = d .2 in omega arith
+            | inr d ↦ let c = ap (λ (n : Version). n .0) (d .0) in omega arith
           ]
+
       go : (pair .version .0 ≡ 0) ⊎ Genuine V (pair .object) (pair .version) (pair .value) → ((v ≡ 65536) × (z ≡ 0)) ⊎ Written S e o v z
       go (inl d) = absurd (let h = high in omega arith)
       go (inr (inl d)) = inl (sym (R .version) ∙ ap (λ (n : Version). n .0) (d .0), sym (R .value) ∙ d .1)
       go (inr (inr d)) = elim (any-split (λ m. WriteRequest (d .0) (d .1 .0) (pair .object) (pair .version) (pair .value) ≡ m) (W .sent) [] (d .1 .1)) [
-          inr b ↦ absurd b
+        | inr b ↦ absurd b
         | inl b ↦ written (d .0) (all-at (MsgTraced e) (WriteRequest (d .0) (d .1 .0) (pair .object) (pair .version) (pair .value)) (W .sent) (E .known .traced .msgs) b)
-        ]
+      ]
         where
           written : (p : ℕ) → ((b : ℕ) × (b < e) × BeginsWrite S b p (pair .object) (pair .value)) × ((g : ℕ) × (g < e) × Gets S g p (pair .version .0))
               → ((v ≡ 65536) × (z ≡ 0)) ⊎ Written S e o v z
@@ -705,22 +735,26 @@ module _ (S : Story) (in-lawful : Lawful (S .inputs)) (out-lawful : Lawful (S .o
     where
       P : Params
       P = G .known .P
+
       h : GetsVersion P (world g) (actOf (before S g) (callAt S g)) p (G .object) (G .version) (G .value)
       h = G .how
+
       past : PastAsking (at (h .named) (clockState P (h .from) (h .clock) (world g .op (h .named))) (world g .op) p)
       past = subst (λ (q : ℕ). PastAsking (at (h .named) (clockState P (h .from) (h .clock) (world g .op (h .named))) (world g .op) q)) (G .named)
           (subst PastAsking (sym (at-same (h .named) (clockState P (h .from) (h .clock) (world g .op (h .named))) (world g .op)))
-            (subst (λ (y : Operation). PastAsking (clockState P (h .from) (h .clock) y)) (sym (h .op))
-              (subst (λ (b : Bool). PastAsking (cond b (sending (getsVersion (hearsClock (h .from) (h .clock) (h .ask)))) (asking (hearsClock (h .from) (h .clock) (h .ask))))) (sym (h .knows)) tt)))
+          (subst (λ (y : Operation). PastAsking (clockState P (h .from) (h .clock) y)) (sym (h .op))
+          (subst (λ (b : Bool). PastAsking (cond b (sending (getsVersion (hearsClock (h .from) (h .clock) (h .ask)))) (asking (hearsClock (h .from) (h .clock) (h .ask))))) (sym (h .knows)) tt)))
 
   not-again : (g h p v w : ℕ) → Getting g p v → Getting h p w → g < h → ⊥
   not-again g h p v w G H l =
       let P = G .known .P in
       let x = past-after g p v G in
       let c = carry P (λ W. (Begun W p) × PastAsking (W .op p))
-            (λ W small _ _ k a m y. (let z = grows P small W k a m .begun in (y .0 .0, let b = y .0 .1 in omega arith),
-              ops-up P small W k PastAsking (past-clock P) (past-write P) (past-read P) a p (y .0) (y .1)))
-            (suc g) h l (live-next P g (G .known .live)) x in
+      (λ W small _ _ k a m y. (
+        let z = grows P small W k a m .begun in (y .0 .0, let b = y .0 .1 in omega arith),
+        ops-up P small W k PastAsking (past-clock P) (past-write P) (past-read P) a p (y .0) (y .1),
+      ))
+      (suc g) h l (live-next P g (G .known .live)) x in
       let e : world h .op p ≡ asking (H .how .ask) = subst (λ (q : ℕ). world h .op q ≡ asking (H .how .ask)) (H .named) (H .how .op) in
       subst PastAsking e (c .1 .1)
 
@@ -730,13 +764,13 @@ module _ (S : Story) (in-lawful : Lawful (S .inputs)) (out-lawful : Lawful (S .o
       let f : G .how .from ≡ H .how .from = cc in
       let c : G .how .clock ≡ H .how .clock = cc in
       let e : asking (G .how .ask) ≡ asking (H .how .ask) =
-            sym (subst (λ (q : ℕ). world g .op q ≡ asking (G .how .ask)) (G .named) (G .how .op))
-            ∙ subst (λ (q : ℕ). world g .op q ≡ asking (H .how .ask)) (H .named) (H .how .op) in
+      sym (subst (λ (q : ℕ). world g .op q ≡ asking (G .how .ask)) (G .named) (G .how .op))
+      ∙ subst (λ (q : ℕ). world g .op q ≡ asking (H .how .ask)) (H .named) (H .how .op) in
       let k : G .how .ask ≡ H .how .ask = cc in
       let x : getsVersion (hearsClock (G .how .from) (G .how .clock) (G .how .ask)) .version ≡ getsVersion (hearsClock (H .how .from) (H .how .clock) (H .how .ask)) .version =
-            ap (λ (n : ℕ). getsVersion (hearsClock n (G .how .clock) (G .how .ask)) .version) f
-            ∙ ap (λ (n : ℕ). getsVersion (hearsClock (H .how .from) n (G .how .ask)) .version) c
-            ∙ ap (λ (n : Asking). getsVersion (hearsClock (H .how .from) (H .how .clock) n) .version) k in
+      ap (λ (n : ℕ). getsVersion (hearsClock n (G .how .clock) (G .how .ask)) .version) f
+      ∙ ap (λ (n : ℕ). getsVersion (hearsClock (H .how .from) n (G .how .ask)) .version) c
+      ∙ ap (λ (n : Asking). getsVersion (hearsClock (H .how .from) (H .how .clock) n) .version) k in
       sym (G .is) ∙ ap (λ (n : Version). n .0) (sym (G .how .version) ∙ x ∙ H .how .version) ∙ H .is
 
   one-version : OneVersion S
@@ -747,10 +781,11 @@ module _ (S : Story) (in-lawful : Lawful (S .inputs)) (out-lawful : Lawful (S .o
           let G = getting g p v x in
           let H = getting h p w y in
           elim (cases-order g h) [
-            inl e ↦ (e, one-each g p v w G (subst (λ (k : ℕ). Getting k p w) (sym e) H))
-          | inr (inl l) ↦ absurd (not-again g h p v w G H l)
-          | inr (inr l) ↦ absurd (not-again h g p w v H G l)
+            | inl e ↦ (e, one-each g p v w G (subst (λ (k : ℕ). Getting k p w) (sym e) H))
+            | inr (inl l) ↦ absurd (not-again g h p v w G H l)
+            | inr (inr l) ↦ absurd (not-again h g p w v H G l)
           ]
+
       ends-with-it : (p t w y : ℕ) → EndsWrite S t p w y → EndOf S t p w y
       ends-with-it p t w y e =
           let E = end-of-write t p w y e in

@@ -33,9 +33,9 @@ at-hit k n a f h = at-cases (λ x. x ≡ a) k n a f (λ _. refl) (λ m. absurd (
 
 pub set-at : {A : Type 0} (l : List A) (i n : ℕ) (x d : A) → i < length l → getD (set l i x) n d ≡ at i x (λ k. getD l k d) n
 set-at l i n x d h = elim (cases-eq i n) [
-    inl e ↦ subst (λ (k : ℕ). getD (set l i x) k d ≡ at i x (λ k. getD l k d) k) e (getD-set-same l i x d h ∙ sym (at-same i x (λ k. getD l k d)))
+  | inl e ↦ subst (λ (k : ℕ). getD (set l i x) k d ≡ at i x (λ k. getD l k d) k) e (getD-set-same l i x d h ∙ sym (at-same i x (λ k. getD l k d)))
   | inr e ↦ getD-set-other l i n x d (λ f. e (sym f)) ∙ sym (at-miss i n x (λ k. getD l k d) e)
-  ]
+]
 
 -- a place beyond the list changes nothing
 pub set-beyond : {A : Type 0} (l : List A) (i : ℕ) (x : A) → length l ≤ i → set l i x ≡ l
@@ -46,12 +46,12 @@ set-beyond (y ∷ l) (suc i) x h = ap (λ r. y ∷ r) (set-beyond l i x (omega a
 -- each place of a changed list is as it was, or has the new element
 pub set-from : {A : Type 0} (l : List A) (i n : ℕ) (x d : A) → (getD (set l i x) n d ≡ getD l n d) ⊎ ((i ≡ n) × (getD (set l i x) n d ≡ x))
 set-from {A = A} l i n x d = elim (cases-eq i n) [
-    inr e ↦ inl (getD-set-other l i n x d (λ f. e (sym f)))
+  | inr e ↦ inl (getD-set-other l i n x d (λ f. e (sym f)))
   | inl e ↦ elim (cases-lt i (length l)) [
-      inl h ↦ inr (e, subst (λ (k : ℕ). getD (set l i x) k d ≡ x) e (getD-set-same l i x d h))
+    | inl h ↦ inr (e, subst (λ (k : ℕ). getD (set l i x) k d ≡ x) e (getD-set-same l i x d h))
     | inr h ↦ inl (ap (λ (k : List A). getD k n d) (set-beyond l i x h))
-    ]
   ]
+]
 
 -- a list that gets back what it has at a place is as it was
 pub set-back : {A : Type 0} (l : List A) (i : ℕ) (d : A) → set l i (getD l i d) ≡ l
@@ -124,16 +124,16 @@ each-all P (suc n) f h = all-++ P (each n f) (f n) (each-all P n f (λ i l. h i 
 pub each-any : {A : Type 0} (P : A → Type 0) (n : ℕ) (f : ℕ → List A) → Any P (each n f) → (i : ℕ) × (i < n) × Any P (f i)
 each-any P zero f h = absurd h
 each-any P (suc n) f h = elim (any-split P (each n f) (f n) h) [
-    inl a ↦ let r = each-any P n f a in (r .0, omega arith, r .2)
+  | inl a ↦ let r = each-any P n f a in (r .0, omega arith, r .2)
   | inr a ↦ (n, omega arith, a)
-  ]
+]
 
 pub any-each : {A : Type 0} (P : A → Type 0) (n : ℕ) (f : ℕ → List A) (i : ℕ) → i < n → Any P (f i) → Any P (each n f)
 any-each P zero f i l h = absurd (omega arith)
 any-each P (suc n) f i l h = elim (cases-eq i n) [
-    inl e ↦ any-new P (each n f) (f n) (subst (λ (k : ℕ). Any P (f k)) e h)
+  | inl e ↦ any-new P (each n f) (f n) (subst (λ (k : ℕ). Any P (f k)) e h)
   | inr e ↦ any-old P (each n f) (f n) (any-each P n f i (omega arith) h)
-  ]
+]
 
 pub each-length : {A : Type 0} (n : ℕ) (f : ℕ → List A) → ((i : ℕ) → length (f i) ≤ 1) → length (each n f) ≤ n
 each-length zero f h = omega arith
@@ -154,14 +154,16 @@ each-at n f i d h = go n h
     last : {B : Type 0} (l : List B) (x y : B) → getD (l ++ (x ∷ [])) (length l) y ≡ x
     last [] x y = refl
     last (z ∷ l) x y = last l x y
+
     early : {B : Type 0} (l r : List B) (i : ℕ) (y : B) → i < length l → getD (l ++ r) i y ≡ getD l i y
     early [] r i y h = absurd (omega arith)
     early (z ∷ l) r zero y h = refl
     early (z ∷ l) r (suc i) y h = early l r i y (omega arith)
+
     go : (n : ℕ) → i < n → getD (each n (λ k. f k ∷ [])) i d ≡ f i
     go zero h = absurd (omega arith)
     go (suc n) h = elim (cases-eq i n) [
-        inl e ↦ subst (λ (k : ℕ). getD (each n (λ k. f k ∷ []) ++ (f n ∷ [])) k d ≡ f k) (sym e)
-            (subst (λ (k : ℕ). getD (each n (λ k. f k ∷ []) ++ (f n ∷ [])) k d ≡ f n) (each-long n f) (last (each n (λ k. f k ∷ [])) (f n) d))
+      | inl e ↦ subst (λ (k : ℕ). getD (each n (λ k. f k ∷ []) ++ (f n ∷ [])) k d ≡ f k) (sym e)
+          (subst (λ (k : ℕ). getD (each n (λ k. f k ∷ []) ++ (f n ∷ [])) k d ≡ f n) (each-long n f) (last (each n (λ k. f k ∷ [])) (f n) d))
       | inr e ↦ early (each n (λ k. f k ∷ [])) (f n ∷ []) i d (let a = each-long n f in omega arith) ∙ go n (omega arith)
-      ]
+    ]

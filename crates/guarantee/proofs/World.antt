@@ -145,7 +145,7 @@ run P (hears (ClockQuestion p i)) W = atInput i (W .inp i) (answersClock i p (W 
 run P (hears (ClockAnswer i p c)) W = atOp p (clockState P i c (W .op p)) (clockNews P i c (W .op p)) W
 run P (hears (WriteRequest p i o v x)) W =
     atInput i (afterWrite (P .counts .m) o v x (W .inp i))
-        (answersWrite i p (P .counts .m) o (afterWrite (P .counts .m) o v x (W .inp i))) W
+    (answersWrite i p (P .counts .m) o (afterWrite (P .counts .m) o v x (W .inp i))) W
 run P (hears (WriteAnswer i p t)) W = atOp p (writeState P i t (W .op p)) [] W
 run P (hears (ReadRequest p j o)) W = atOutput j (W .out j) (answersRead (P .inputs) j p (P .counts .n) o (W .out j)) W
 run P (hears (ReadAnswer j p v x)) W = atOp p (readState P j v x (W .op p)) [] W
@@ -197,11 +197,11 @@ op-changed l p x h k (suc q) =
     ∙ ap (λ (n : ℕ). getD (set l (p - 1) x) n unused) b
     ∙ set-at l (p - 1) q x unused (omega arith)
     ∙ elim (cases-eq p (suc q)) [
-        inl e ↦ ap (λ (t : Bool). cond t x (getD l q unused)) (eq-eqb (p - 1) q (omega arith)) ∙ sym (ap (λ (t : Bool). cond t x (f (suc q))) (eq-eqb p (suc q) e))
+      | inl e ↦ ap (λ (t : Bool). cond t x (getD l q unused)) (eq-eqb (p - 1) q (omega arith)) ∙ sym (ap (λ (t : Bool). cond t x (f (suc q))) (eq-eqb p (suc q) e))
       | inr e ↦ ap (λ (t : Bool). cond t x (getD l q unused)) (ne-eqb (p - 1) q (λ g. e (omega arith)))
           ∙ (sym (ap (λ (t : Bool). cond t x (f (suc q))) (ne-eqb p (suc q) e)
-              ∙ ap (λ (t : Bool). cond t unused (getD l (suc q - 1) unused)) z ∙ ap (λ (n : ℕ). getD l n unused) b))
-      ]
+          ∙ ap (λ (t : Bool). cond t unused (getD l (suc q - 1) unused)) z ∙ ap (λ (n : ℕ). getD l n unused) b))
+    ]
 
 pub op-with : (p : ℕ) (x : Operation) (s : State) → 1 ≤ p → p ≤ length (s .table) → opOf (withOperation p x s) ≡ at p x (opOf s)
 op-with p x s h k = fun-ext (λ q. op-changed (s .table) p x h k q)
@@ -209,4 +209,4 @@ op-with p x s h k = fun-ext (λ q. op-changed (s .table) p x h k q)
 pub op-enter : (x : Operation) (s : State) → s .begun < length (s .table) → opOf (enter x s) ≡ at (s .begun + 1) x (opOf s)
 op-enter x s h =
     fun-ext (λ q. ap (λ (n : ℕ). cond (eqb q 0) unused (getD (set (s .table) n x) (q - 1) unused)) (omega arith)
-      ∙ op-changed (s .table) (s .begun + 1) x (omega arith) (omega arith) q)
+    ∙ op-changed (s .table) (s .begun + 1) x (omega arith) (omega arith) q)

@@ -6,7 +6,7 @@ use lib.ListN.{length, take}
 use Rattle.quorum.specs.Systems.{System, Lawful}
 use Rattle.rules.specs.declared.epoch.Epoch.{Epoch}
 use Rattle.rules.specs.declared.message.Message.the-variants.{RenewalAnswer}
-use Rattle.rules.specs.declared.message.Parts.{Parts}
+use Rattle.rules.specs.declared.parts.Parts.{Parts}
 use Rattle.rules.specs.declared.pairs.Pairs.{Pairs}
 use Rattle.rules.specs.declared.time.Time.{Time}
 use Rattle.rules.specs.declared.version.Version.{Version}

@@ -183,7 +183,7 @@ hearsClockAnswer inputs i p c unused s = quiet s
 hearsClockAnswer inputs i p c (asking a) s =
     cond (knowsClock inputs (hearsClock i c a))
     (quiet (post (writeRequests (s .frame .counts .n) (getsVersion (hearsClock i c a)))
-        (withOperation p (sending (getsVersion (hearsClock i c a))) s)))
+    (withOperation p (sending (getsVersion (hearsClock i c a))) s)))
     (quiet (withOperation p (asking (hearsClock i c a)) s))
 hearsClockAnswer inputs i p c (sending w) s = quiet s
 hearsClockAnswer inputs i p c (reading r) s = quiet s
@@ -215,17 +215,17 @@ receives inputs outputs (ClockQuestion p i) s = quiet (post (answersClock i p (i
 receives inputs outputs (ClockAnswer i p c) s = hearsClockAnswer inputs i p c (operationAt s p) s
 receives inputs outputs (WriteRequest p i o v x) s =
     quiet (post (answersWrite i p (s .frame .counts .m) o (afterWrite (s .frame .counts .m) o v x (inputAt s i)))
-        (withInput i (afterWrite (s .frame .counts .m) o v x (inputAt s i)) s))
+    (withInput i (afterWrite (s .frame .counts .m) o v x (inputAt s i)) s))
 receives inputs outputs (WriteAnswer i p t) s = hearsWriteAnswer inputs outputs i p t (operationAt s p) s
 receives inputs outputs (ReadRequest p j o) s =
     quiet (post (answersRead inputs j p (s .frame .counts .n) o (outputAt s j)) s)
 receives inputs outputs (ReadAnswer j p v x) s = hearsReadAnswer outputs j p v x (operationAt s p) s
 receives inputs outputs (RenewalRequest j i a o stamp) s =
     quiet (post (answersRenewal i (s .frame .lease) j a o stamp (inputAt s i) ∷ [])
-        (withInput i (afterRenewal (s .frame .lease) j a o (inputAt s i)) s))
+    (withInput i (afterRenewal (s .frame .lease) j a o (inputAt s i)) s))
 receives inputs outputs (RenewalAnswer i j a o v x e stamp length l) s =
     quiet (post (acknowledgement j i l)
-        (withOutput j (afterAnswer (s .frame .drift) i a o v x e stamp length (listOf l) (outputAt s j)) s))
+    (withOutput j (afterAnswer (s .frame .drift) i a o v x e stamp length (listOf l) (outputAt s j)) s))
 receives inputs outputs (Invalidation i j o v) s =
     quiet (post (answersInvalidation j i o v) (withOutput j (afterInvalidation i o v (outputAt s j)) s))
 receives inputs outputs (InvalidationAnswer j i l) s =

@@ -10,7 +10,7 @@ use Rattle.rules.specs.declared.kept.Held.{Held}
 use Rattle.rules.specs.declared.kept.Ledger.{Ledger}
 use Rattle.rules.specs.declared.message.Message.{Message}
 use Rattle.rules.specs.declared.message.Message.the-variants.{ClockAnswer, WriteAnswer, RenewalAnswer, Invalidation}
-use Rattle.rules.specs.declared.message.Parts.{Parts}
+use Rattle.rules.specs.declared.parts.Parts.{Parts}
 use Rattle.rules.specs.declared.pairs.Pair.{Pair}
 use Rattle.rules.specs.declared.time.Time.{Time}
 use Rattle.rules.specs.declared.version.Version.{Version}
@@ -123,8 +123,8 @@ withChain j c e I = record {
 unfoldable pub queuesFor : ℕ → ℕ → Input → Input
 queuesFor o j I = cond (owed I o j)
     (cond (fits (record { object = o; version = held I o .version }) j (I .waiting))
-        (withChain j (queued (record { object = o; version = held I o .version }) (chain I j)) (ledger I j .epoch) I)
-        (withChain j [] (record { 0 = ledger I j .epoch .0 + 1 }) I))
+    (withChain j (queued (record { object = o; version = held I o .version }) (chain I j)) (ledger I j .epoch) I)
+    (withChain j [] (record { 0 = ledger I j .epoch .0 + 1 }) I))
     I
 
 -- the same for each output server below m, in rising order
@@ -153,12 +153,12 @@ grants a j I = asksVolume a && leb (length (chain I j)) shown
 abbrev pub answersRenewal : ℕ → ℕ → ℕ → Parts → ℕ → Time → Input → Message
 answersRenewal i lease j a o stamp I =
     RenewalAnswer i j a o
-        (cond (asksObject a) (held I o .version) none)
-        (cond (asksObject a) (held I o .value) 0)
-        (ledger I j .epoch)
-        stamp
-        (cond (grants a j I) lease 0)
-        (cond (asksVolume a) (pairs (take shown (chain I j))) (pairs []))
+    (cond (asksObject a) (held I o .version) none)
+    (cond (asksObject a) (held I o .value) 0)
+    (ledger I j .epoch)
+    stamp
+    (cond (grants a j I) lease 0)
+    (cond (asksVolume a) (pairs (take shown (chain I j))) (pairs []))
 
 abbrev pub afterRenewal : ℕ → ℕ → Parts → ℕ → Input → Input
 afterRenewal lease j a o I = record {

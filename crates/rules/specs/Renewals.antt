@@ -1,7 +1,7 @@
 -- The parts of a renewal.
 use mathlib.Core.Bool.{Bool, true, false}
-use Rattle.rules.specs.declared.message.Parts.{Parts}
-use Rattle.rules.specs.declared.message.Parts.the-variants.{Object, Volume, Both}
+use Rattle.rules.specs.declared.parts.Parts.{Parts}
+use Rattle.rules.specs.declared.parts.Parts.the-variants.{Object, Volume, Both}
 
 abbrev pub asksObject : Parts → Bool
 asksObject Object = true

@@ -1,26 +1,21 @@
 use crate::epoch::Epoch;
-use crate::pairs::Pairs;
-use crate::time::Time;
-use crate::version::Version;
 use crate::epoch::EpochDebug;
 use crate::epoch::EpochPartialEq;
+use crate::pairs::Pairs;
 use crate::pairs::PairsDebug;
 use crate::pairs::PairsPartialEq;
+use crate::parts::Parts;
+use crate::parts::PartsDebug;
+use crate::parts::PartsPartialEq;
+use crate::time::Time;
 use crate::time::TimeDebug;
 use crate::time::TimePartialEq;
+use crate::version::Version;
 use crate::version::VersionDebug;
 use crate::version::VersionPartialEq;
 use quorum::MemberSet;
 use quorum::MemberSetDebug;
 use quorum::MemberSetPartialEq;
-
-// The parts of a renewal.
-#[derive(Clone, Copy, Debug, PartialEq, Eq)]
-pub enum Parts {
-    Object,
-    Volume,
-    Both,
-}
 
 // A message between an operation and a server, or between two servers. A log lies with the caller
 // and may hold any numbers; delivering tests those that it uses.

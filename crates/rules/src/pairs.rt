@@ -1,7 +1,7 @@
 ghost use mathlib.Core.Path.{_≡_};
-ghost use Prim.Native.Nat.{ℕ};
 ghost use mathlib.Core.List.{[], _∷_};
-ghost use Rattle.rules.specs.Lists.{pairs};
+ghost use lib.ListN.{length};
+ghost use Rattle.rules.specs.Lists.{listOf, pairAt, pairs};
 use crate::version::Version;
 use crate::version::VersionDebug;
 use crate::version::VersionPartialEq;
@@ -22,14 +22,20 @@ pub struct Pairs {
 }
 
 impl Pair {
-    pub const NONE: Pair = Pair { object: 0, version: Version::NONE };
+    pub const NONE: Pair = Pair {
+        object: 0,
+        version: Version::NONE,
+    };
 }
 
 impl Pairs {
     pub fn empty() -> Pairs
         ensures { λ r. ⌜ r ≡ pairs [] ⌝ }
     {
-        Pairs { count: 0, items: [Pair::NONE; 8] }
+        Pairs {
+            count: 0,
+            items: [Pair::NONE; 8],
+        }
     }
 
     pub fn one(pair: Pair) -> Pairs
@@ -38,5 +44,23 @@ impl Pairs {
         let mut items = [Pair::NONE; 8];
         items[0] = pair;
         Pairs { count: 1, items }
+    }
+
+    // How many pairs there are to read: no more than there is room for, whatever the count says.
+    pub fn len(self) -> u8
+        ensures { λ r. ⌜ r ≡ length (listOf self) ⌝ }
+    {
+        if self.count < 8 { self.count } else { 8 }
+    }
+
+    // The pair at a place from 0 on.
+    pub fn get(self, place: u8) -> Option<Pair>
+        ensures { λ r. ⌜ r ≡ pairAt place self ⌝ }
+    {
+        if place < self.len() {
+            Some(self.items[place as usize])
+        } else {
+            None
+        }
     }
 }

@@ -1,7 +1,6 @@
 ghost use mathlib.Core.Path.{_≡_};
-ghost use lib.Dec.{leb, ltb};
-ghost use Rattle.rules.specs.Numbers.{versionOf, clockOf, nextVersion, raised};
-ghost use Prim.Native.Nat.{_+_, _*_};
+ghost use lib.Dec.{ltb};
+ghost use Rattle.rules.specs.Numbers.{versionOf, clockOf, nextVersion, isVersion, raised};
 
 // A version: clock × 65,536 + operation number. 0 stands for "none".
 #[derive(Clone, Copy, Debug, PartialEq, Eq)]
@@ -42,9 +41,9 @@ impl Version {
         self.0 > other.0
     }
 
-    // Whether the number is a version, and not "none" or a number below every version.
-    pub fn is_some(self) -> bool
-        ensures { λ r. ⌜ r ≡ leb 65536 (self .0) ⌝ }
+    // Whether the number is a version: 65,536 to 2^32 - 1.
+    pub fn is_version(self) -> bool
+        ensures { λ r. ⌜ r ≡ isVersion self ⌝ }
     {
         self.0 >= 65_536
     }
