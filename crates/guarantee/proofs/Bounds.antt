@@ -13,10 +13,10 @@ use Rattle.rules.specs.declared.kept.Held.{Held}
 use Rattle.rules.specs.declared.kept.Ledger.{Ledger}
 use Rattle.rules.specs.declared.kept.Link.{Link}
 use Rattle.rules.specs.declared.message.Message.{Message}
-use Rattle.rules.specs.declared.time.Time.{Time}
+use Rattle.numbers.specs.declared.time.Time.{Time}
 use Rattle.rules.specs.Calls.{startClock, opened, clocksFit, enter, withOperation, advanced}
 use Rattle.rules.specs.Input.{Input, no-held, no-ledger, firstInput}
-use Rattle.rules.specs.Numbers.{none, starting, last-time, longest}
+use Rattle.numbers.specs.Numbers.{none, starting, last-time, longest}
 use Rattle.rules.specs.Operation.{Operation}
 use Rattle.rules.specs.Output.{Output, no-link, firstOutput}
 use Rattle.rules.specs.State.{Frame, State, no-input, no-output, inputAt, outputAt, post, withInput, withOutput}

@@ -14,12 +14,12 @@ use Rattle.quorum.specs.declared.member_set.MemberSet.{MemberSet}
 use Rattle.quorum.specs.Systems.{System, Lawful}
 use Rattle.rules.specs.declared.message.Message.{Message}
 use Rattle.rules.specs.declared.message.Message.the-variants.{ClockQuestion, ClockAnswer, WriteRequest, WriteAnswer, ReadRequest, ReadAnswer, RenewalRequest, RenewalAnswer, Invalidation, InvalidationAnswer}
-use Rattle.rules.specs.declared.time.Time.{Time}
-use Rattle.rules.specs.declared.version.Version.{Version}
+use Rattle.numbers.specs.declared.time.Time.{Time}
+use Rattle.numbers.specs.declared.version.Version.{Version}
 use Rattle.rules.specs.Calls.{opening, advancing, beginning, beginningWrite, beginningRead, delivering, whenOpen, asOpened, hasNine, inputsStay, outputsStay, keepsWith, keepEach, keepsDrift, laterInputs, laterOutputs, advanced, enter, operationAt, withOperation, isKnown, inRange, quiet, hearsClockAnswer, hearsWriteAnswer, hearsReadAnswer, receives, no-message, messageAt}
 use Rattle.rules.specs.Input.{Input, answersClock, afterWrite, answersWrite, afterRenewal, answersRenewal, acknowledgesAll, laterInput}
 use Rattle.rules.specs.Lists.{listOf, each}
-use Rattle.rules.specs.Numbers.{between}
+use Rattle.numbers.specs.Numbers.{between}
 use Rattle.rules.specs.Operation.{Operation, unused, asking, sending, reading, ended, firstAsking, firstReading, clockQuestions, readRequests, hearsClock, knowsClock, getsVersion, writeRequests, hearsNamed, isWritten, hearsPair, isRead}
 use Rattle.rules.specs.Output.{Output, answersRead, afterAnswer, acknowledgement, afterInvalidation, answersInvalidation, laterOutput}
 use Rattle.rules.specs.Ranges.{Counts, numbersFit, operationFits, stateFits, hasRoom}

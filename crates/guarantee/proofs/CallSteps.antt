@@ -13,10 +13,10 @@ use Rattle.std.proofs.shelf.Tests.{cases-eq, cases-lt, cond-both, cond-true, co
 use Rattle.quorum.specs.Systems.{System}
 use Rattle.rules.specs.declared.message.Message.{Message}
 use Rattle.rules.specs.declared.message.Message.the-variants.{ClockQuestion, ReadRequest}
-use Rattle.rules.specs.declared.time.Time.{Time}
+use Rattle.numbers.specs.declared.time.Time.{Time}
 use Rattle.rules.specs.Calls.{opening, advancing, beginning, beginningWrite, beginningRead, delivering, whenOpen, asOpened, hasNine, inputsStay, outputsStay, keepsWith, keepEach, keepsDrift, laterInputs, laterOutputs, advanced, enter, operationAt, isKnown, inRange, receives, messageAt, no-message}
 use Rattle.rules.specs.Input.{Input, laterInput}
-use Rattle.rules.specs.Numbers.{between, keepsPair}
+use Rattle.numbers.specs.Numbers.{between, keepsPair}
 use Rattle.rules.specs.Operation.{Operation, unused, asking, reading, firstAsking, firstReading, clockQuestions, readRequests}
 use Rattle.rules.specs.Output.{Output, laterOutput}
 use Rattle.rules.specs.Ranges.{Counts, numbersFit, operationFits, hasRoom}

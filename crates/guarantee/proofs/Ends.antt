@@ -9,7 +9,7 @@ use Rattle.std.proofs.shelf.Tests.{cond-both}
 use Rattle.quorum.specs.declared.member_set.MemberSet.{MemberSet}
 use Rattle.rules.specs.declared.message.Message.{Message}
 use Rattle.rules.specs.declared.message.Message.the-variants.{ClockQuestion, ClockAnswer, WriteRequest, WriteAnswer, ReadRequest, ReadAnswer, RenewalRequest, RenewalAnswer, Invalidation, InvalidationAnswer}
-use Rattle.rules.specs.declared.version.Version.{Version}
+use Rattle.numbers.specs.declared.version.Version.{Version}
 use Rattle.rules.specs.Input.{afterWrite, answersWrite}
 use Rattle.rules.specs.Lists.{each}
 use Rattle.rules.specs.Operation.{Operation, unused, asking, sending, reading, ended, Asking, Sending, Reading, clockQuestions, readRequests, writeRequests, getsVersion, hearsClock, knowsClock, hearsNamed, isWritten, hearsPair, isRead}

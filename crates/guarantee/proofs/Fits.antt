@@ -10,16 +10,16 @@ use lib.ListN.{take}
 use Rattle.std.proofs.shelf.Tests.{and-parts, ltb-true, leb-true, eqb-true, cases-bool, cond-true, cond-false, false≢true}
 use Rattle.std.proofs.shelf.Ways.{tells}
 use Rattle.quorum.specs.declared.member_set.MemberSet.{MemberSet}
-use Rattle.rules.specs.declared.epoch.Epoch.{Epoch}
+use Rattle.numbers.specs.declared.epoch.Epoch.{Epoch}
 use Rattle.rules.specs.declared.message.Message.{Message}
 use Rattle.rules.specs.declared.message.Message.the-variants.{ClockQuestion, ClockAnswer, WriteRequest, WriteAnswer, ReadRequest, ReadAnswer, RenewalRequest, RenewalAnswer, Invalidation, InvalidationAnswer}
 use Rattle.rules.specs.declared.parts.Parts.{Parts}
 use Rattle.rules.specs.declared.pairs.Pair.{Pair}
 use Rattle.rules.specs.declared.pairs.Pairs.{Pairs}
-use Rattle.rules.specs.declared.time.Time.{Time}
-use Rattle.rules.specs.declared.version.Version.{Version}
+use Rattle.numbers.specs.declared.time.Time.{Time}
+use Rattle.numbers.specs.declared.version.Version.{Version}
 use Rattle.rules.specs.Lists.{listOf}
-use Rattle.rules.specs.Numbers.{between, isVersion, last-time, longest, shown}
+use Rattle.numbers.specs.Numbers.{between, isVersion, last-time, longest, shown}
 use Rattle.rules.specs.Ranges.{Counts, pairFits, pairsFit, listFits, ends, numbersFit}
 use Rattle.rules.specs.Renewals.{asksObject, asksVolume}
 use Rattle.guarantee.proofs.Words.{All}

@@ -11,7 +11,7 @@ use lib.Seq.{getD-set-same, getD-set-other, sets-eq, take-append-seam, take-all}
 use Rattle.std.proofs.shelf.Tests.{cases-eq, cases-bool, cond-both, cond-true, cond-false}
 use Rattle.std.proofs.shelf.Tests.{eqb-true, leb-true, leb-false, ltb-true, ltb-false, not-false, and-parts, and-cases, or-cases}
 use Rattle.quorum.specs.Sets.{setOf}
-use Rattle.rules.specs.declared.epoch.Epoch.{Epoch}
+use Rattle.numbers.specs.declared.epoch.Epoch.{Epoch}
 use Rattle.rules.specs.declared.kept.Held.{Held}
 use Rattle.rules.specs.declared.kept.Ledger.{Ledger}
 use Rattle.rules.specs.declared.message.Message.{Message}
@@ -19,13 +19,13 @@ use Rattle.rules.specs.declared.message.Message.the-variants.{WriteAnswer, Rene
 use Rattle.rules.specs.declared.parts.Parts.{Parts}
 use Rattle.rules.specs.declared.pairs.Pair.{Pair}
 use Rattle.rules.specs.declared.pairs.Pairs.{Pairs}
-use Rattle.rules.specs.declared.time.Time.{Time}
-use Rattle.rules.specs.declared.version.Version.{Version}
+use Rattle.numbers.specs.declared.time.Time.{Time}
+use Rattle.numbers.specs.declared.version.Version.{Version}
 use Rattle.rules.specs.Input.{Input, no-held, no-ledger, held, ledger, chain, lastRead, lastAck, shutOut, queued, freed, fits}
 use Rattle.rules.specs.Input.{takesWrite, owed, withChain, queuesFor, queuesAll, afterWrite, invalidations, answersWrite}
 use Rattle.rules.specs.Input.{grants, answersRenewal, afterRenewal, acknowledges, acknowledgesAll, laterInput}
 use Rattle.rules.specs.Lists.{no-pair, listOf, pairs, each}
-use Rattle.rules.specs.Numbers.{none, clockOf, raised, shown}
+use Rattle.numbers.specs.Numbers.{none, clockOf, raised, shown}
 use Rattle.rules.specs.Output.{Output, laterOutput}
 use Rattle.rules.specs.Renewals.{asksObject, asksVolume}
 use Rattle.guarantee.proofs.View.{Has, Part, asked, copy, lease, answer, Inv, Moves, Fresh, Shut, Queued}

@@ -11,18 +11,18 @@ use Rattle.std.proofs.shelf.Tests.{cases-eq, cond-both, cond-true, and-parts, f
 use Rattle.quorum.specs.declared.member_set.MemberSet.{MemberSet}
 use Rattle.quorum.specs.Sets.{has, full, joined, setOf}
 use Rattle.quorum.specs.Systems.{System, Lawful}
-use Rattle.rules.specs.declared.epoch.Epoch.{Epoch}
+use Rattle.numbers.specs.declared.epoch.Epoch.{Epoch}
 use Rattle.rules.specs.declared.kept.Held.{Held}
 use Rattle.rules.specs.declared.kept.Newest.{Newest}
 use Rattle.rules.specs.declared.message.Message.{Message}
 use Rattle.rules.specs.declared.message.Message.the-variants.{ClockQuestion, ClockAnswer, WriteRequest, WriteAnswer, ReadRequest, ReadAnswer, RenewalRequest, RenewalAnswer, Invalidation, InvalidationAnswer}
 use Rattle.rules.specs.declared.parts.Parts.{Parts}
 use Rattle.rules.specs.declared.pairs.Pairs.{Pairs}
-use Rattle.rules.specs.declared.time.Time.{Time}
-use Rattle.rules.specs.declared.version.Version.{Version}
+use Rattle.numbers.specs.declared.time.Time.{Time}
+use Rattle.numbers.specs.declared.version.Version.{Version}
 use Rattle.rules.specs.Input.{Input, held, shutOut, answersClock, afterWrite, answersWrite, afterRenewal, answersRenewal, acknowledgesAll, laterInput}
 use Rattle.rules.specs.Lists.{listOf, each}
-use Rattle.rules.specs.Numbers.{none, clockOf}
+use Rattle.numbers.specs.Numbers.{none, clockOf}
 use Rattle.rules.specs.Operation.{Operation, unused, asking, sending, reading, ended, Asking, Sending, Reading, firstAsking, firstReading, clockQuestions, readRequests, writeRequests, getsVersion, hearsClock, knowsClock, hearsNamed, isWritten, hearsPair, isRead, namedBy}
 use Rattle.rules.specs.Output.{Output, newestOf, valid, covers, good, answersRead, afterAnswer, acknowledgement, afterInvalidation, answersInvalidation, laterOutput, link, copyOf}
 use Rattle.rules.specs.Renewals.{asksObject}

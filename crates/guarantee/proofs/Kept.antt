@@ -10,9 +10,9 @@ use Rattle.quorum.specs.declared.member_set.MemberSet.{MemberSet}
 use Rattle.quorum.specs.Sets.{has}
 use Rattle.rules.specs.declared.message.Message.{Message}
 use Rattle.rules.specs.declared.message.Message.the-variants.{ClockQuestion, ClockAnswer, WriteRequest, WriteAnswer, ReadRequest, ReadAnswer, RenewalRequest, RenewalAnswer, Invalidation, InvalidationAnswer}
-use Rattle.rules.specs.declared.version.Version.{Version}
+use Rattle.numbers.specs.declared.version.Version.{Version}
 use Rattle.rules.specs.Input.{Input, held}
-use Rattle.rules.specs.Numbers.{starting, clockOf}
+use Rattle.numbers.specs.Numbers.{starting, clockOf}
 use Rattle.rules.specs.Operation.{Operation, unused, asking, sending, reading, ended, Asking, Sending, Reading, namedBy}
 use Rattle.rules.specs.Output.{Output, newestOf}
 use Rattle.rules.specs.Ranges.{numbersFit}

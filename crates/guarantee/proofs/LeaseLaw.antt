@@ -9,7 +9,7 @@ use Rattle.std.proofs.shelf.Tests.{false≢true}
 use Rattle.rules.specs.declared.message.Message.{Message}
 use Rattle.rules.specs.declared.message.Message.the-variants.{RenewalAnswer}
 use Rattle.rules.specs.Lists.{listOf}
-use Rattle.rules.specs.Numbers.{leaseEnd}
+use Rattle.numbers.specs.Numbers.{leaseEnd}
 use Rattle.rules.specs.State.{State, outputAt}
 use Rattle.guarantee.specs.Leases.{AllOver, LeasesRunOut}
 use Rattle.guarantee.specs.Story.{before}

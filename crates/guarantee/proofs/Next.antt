@@ -14,10 +14,10 @@ use Rattle.rules.specs.declared.kept.Newest.{Newest}
 use Rattle.rules.specs.declared.message.Message.{Message}
 use Rattle.rules.specs.declared.message.Message.the-variants.{ClockQuestion, ClockAnswer, WriteRequest, WriteAnswer, ReadRequest, ReadAnswer, RenewalRequest, RenewalAnswer, Invalidation, InvalidationAnswer}
 use Rattle.rules.specs.declared.parts.Parts.{Parts}
-use Rattle.rules.specs.declared.version.Version.{Version}
+use Rattle.numbers.specs.declared.version.Version.{Version}
 use Rattle.rules.specs.Input.{Input, held, shutOut, answersClock, afterWrite, answersWrite, answersRenewal}
 use Rattle.rules.specs.Lists.{each}
-use Rattle.rules.specs.Numbers.{none, clockOf}
+use Rattle.numbers.specs.Numbers.{none, clockOf}
 use Rattle.rules.specs.Operation.{Operation, unused, asking, sending, reading, ended, Asking, Sending, Reading, firstAsking, firstReading, clockQuestions, readRequests, writeRequests, getsVersion, hearsClock, knowsClock, hearsNamed, isWritten, hearsPair, isRead, namedBy}
 use Rattle.rules.specs.Output.{Output, newestOf, valid, covers, good, answersRead, acknowledgement}
 use Rattle.rules.specs.Renewals.{asksObject}

@@ -16,12 +16,12 @@ use Rattle.rules.specs.declared.kept.Link.{Link}
 use Rattle.rules.specs.declared.kept.Newest.{Newest}
 use Rattle.rules.specs.declared.message.Message.{Message}
 use Rattle.rules.specs.declared.pairs.Pair.{Pair}
-use Rattle.rules.specs.declared.time.Time.{Time}
-use Rattle.rules.specs.declared.version.Version.{Version}
+use Rattle.numbers.specs.declared.time.Time.{Time}
+use Rattle.numbers.specs.declared.version.Version.{Version}
 use Rattle.rules.specs.Calls.{opening, advancing, beginning, beginningWrite, beginningRead, delivering, whenOpen, asOpened, opened, startClock, clocksFit}
 use Rattle.rules.specs.Input.{Input, no-held, no-ledger, held, ledger, lastRead, lastAck, firstInput}
 use Rattle.rules.specs.Lists.{each}
-use Rattle.rules.specs.Numbers.{none, starting, between, longest, clockOf}
+use Rattle.numbers.specs.Numbers.{none, starting, between, longest, clockOf}
 use Rattle.rules.specs.Operation.{Operation}
 use Rattle.rules.specs.Output.{Output, no-newest, no-copy, no-link, newestOf, link, copyOf, firstOutput}
 use Rattle.rules.specs.State.{Frame, State, Said, accepted, Outcome, outcome, refuse, inputAt, outputAt, no-input, no-output}

@@ -14,7 +14,7 @@ use Rattle.quorum.specs.declared.member_set.MemberSet.{MemberSet}
 use Rattle.quorum.specs.Sets.{has, joined}
 use Rattle.rules.specs.declared.message.Message.{Message}
 use Rattle.rules.specs.declared.message.Message.the-variants.{ClockAnswer, WriteRequest, WriteAnswer, ReadRequest, ReadAnswer}
-use Rattle.rules.specs.declared.version.Version.{Version}
+use Rattle.numbers.specs.declared.version.Version.{Version}
 use Rattle.rules.specs.Operation.{Operation, unused, asking, sending, reading, ended, Asking, Sending, Reading, namedBy, hearsClock, knowsClock, getsVersion, writeRequests, hearsNamed, isWritten, hearsPair, isRead}
 use Rattle.guarantee.proofs.Sets.{has-or, has-none, of-joined}
 use Rattle.guarantee.proofs.Words.{at, at-cases, at-same, at-miss, set-from, Any, In, All, all-at, any-new, any-old, any-each}

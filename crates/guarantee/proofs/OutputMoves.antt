@@ -11,7 +11,7 @@ use lib.Seq.{getD-set-same, getD-set-other}
 use Rattle.std.proofs.shelf.Ways.{tells}
 use Rattle.std.proofs.shelf.Tests.{and-parts, cases-eq, cond-both, leb-true, ltb-true, ltb-false, not-true}
 use Rattle.quorum.specs.Systems.{System}
-use Rattle.rules.specs.declared.epoch.Epoch.{Epoch}
+use Rattle.numbers.specs.declared.epoch.Epoch.{Epoch}
 use Rattle.rules.specs.declared.kept.Copied.{Copied}
 use Rattle.rules.specs.declared.kept.Link.{Link}
 use Rattle.rules.specs.declared.kept.Newest.{Newest}
@@ -20,11 +20,11 @@ use Rattle.rules.specs.declared.message.Message.the-variants.{ReadAnswer, Renew
 use Rattle.rules.specs.declared.parts.Parts.{Parts}
 use Rattle.rules.specs.declared.pairs.Pair.{Pair}
 use Rattle.rules.specs.declared.pairs.Pairs.{Pairs}
-use Rattle.rules.specs.declared.time.Time.{Time}
-use Rattle.rules.specs.declared.version.Version.{Version}
+use Rattle.numbers.specs.declared.time.Time.{Time}
+use Rattle.numbers.specs.declared.version.Version.{Version}
 use Rattle.rules.specs.Input.{Input}
 use Rattle.rules.specs.Lists.{listOf}
-use Rattle.rules.specs.Numbers.{raised, later, longer, leaseEnd}
+use Rattle.numbers.specs.Numbers.{raised, later, longer, leaseEnd}
 use Rattle.rules.specs.Output.{Output, no-newest, no-copy, no-link, newestOf, link, copyOf, sound, leased, good, covers, valid}
 use Rattle.rules.specs.Output.{renewals, answersRead, withCopy, hears, hearsAll, accepts, takesCopy, takesLease}
 use Rattle.rules.specs.Output.{afterAnswer, acknowledgement, afterInvalidation, answersInvalidation}

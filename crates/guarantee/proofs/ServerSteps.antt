@@ -10,17 +10,17 @@ use lib.Dec.{ltb}
 use lib.ListN.{getD, set}
 use lib.Seq.{getD-set-other}
 use Rattle.std.proofs.shelf.Tests.{cond-both, ltb-true}
-use Rattle.rules.specs.declared.epoch.Epoch.{Epoch}
+use Rattle.numbers.specs.declared.epoch.Epoch.{Epoch}
 use Rattle.rules.specs.declared.kept.Copied.{Copied}
 use Rattle.rules.specs.declared.kept.Held.{Held}
 use Rattle.rules.specs.declared.kept.Link.{Link}
 use Rattle.rules.specs.declared.kept.Newest.{Newest}
 use Rattle.rules.specs.declared.parts.Parts.{Parts}
 use Rattle.rules.specs.declared.pairs.Pair.{Pair}
-use Rattle.rules.specs.declared.time.Time.{Time}
-use Rattle.rules.specs.declared.version.Version.{Version}
+use Rattle.numbers.specs.declared.time.Time.{Time}
+use Rattle.numbers.specs.declared.version.Version.{Version}
 use Rattle.rules.specs.Input.{Input, no-held, no-ledger, held, ledger, chain, queued, fits, owed, withChain, takesWrite, queuesFor, queuesAll, afterWrite, afterRenewal, acknowledges, acknowledgesAll, laterInput}
-use Rattle.rules.specs.Numbers.{none, raised, clockOf, later, leaseEnd, last-time, longest}
+use Rattle.numbers.specs.Numbers.{none, raised, clockOf, later, leaseEnd, last-time, longest}
 use Rattle.rules.specs.Output.{Output, no-copy, no-link, link, copyOf, withCopy, hears, hearsAll, accepts, takesCopy, takesLease, afterAnswer, afterInvalidation, laterOutput}
 use Rattle.rules.specs.Renewals.{asksVolume}
 use Rattle.guarantee.specs.Bounds.{IsBetween, IsVersion, IsPair, ChainBounds, InputBounds, OutputBounds}

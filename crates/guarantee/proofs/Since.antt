@@ -11,7 +11,7 @@ use Rattle.quorum.specs.Sets.{has, full, joined, setOf}
 use Rattle.quorum.specs.Systems.{System, Lawful}
 use Rattle.rules.specs.declared.message.Message.{Message}
 use Rattle.rules.specs.declared.message.Message.the-variants.{ClockQuestion, ClockAnswer, WriteRequest, WriteAnswer, ReadRequest, ReadAnswer, RenewalRequest, RenewalAnswer, Invalidation, InvalidationAnswer}
-use Rattle.rules.specs.declared.version.Version.{Version}
+use Rattle.numbers.specs.declared.version.Version.{Version}
 use Rattle.rules.specs.Input.{afterWrite, answersWrite}
 use Rattle.rules.specs.Operation.{Operation, unused, asking, sending, reading, ended, Asking, Sending, Reading, namedBy, counts, clockQuestions, readRequests, writeRequests, getsVersion, hearsClock, knowsClock, hearsNamed, isWritten, hearsPair, isRead}
 use Rattle.rules.specs.Output.{Output, newestOf, valid, covers, good}

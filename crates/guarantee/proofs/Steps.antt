@@ -6,14 +6,14 @@ use mathlib.Core.Bool.{Bool, true, false, cond}
 use Prim.Native.Nat.{ℕ, zero, suc, _+_, _-_, _*_, _≤_, _<_}
 use native.Mathlib.Omega.{arith}
 use Rattle.std.proofs.shelf.Tests.{cases-eq, cond-both}
-use Rattle.rules.specs.declared.epoch.Epoch.{Epoch}
+use Rattle.numbers.specs.declared.epoch.Epoch.{Epoch}
 use Rattle.rules.specs.declared.message.Message.{Message}
 use Rattle.rules.specs.declared.message.Message.the-variants.{ClockQuestion, ClockAnswer, WriteRequest, WriteAnswer, ReadRequest, ReadAnswer, RenewalRequest, RenewalAnswer, Invalidation, InvalidationAnswer}
 use Rattle.rules.specs.declared.parts.Parts.{Parts}
 use Rattle.rules.specs.declared.pairs.Pair.{Pair}
 use Rattle.rules.specs.declared.pairs.Pairs.{Pairs}
-use Rattle.rules.specs.declared.time.Time.{Time}
-use Rattle.rules.specs.declared.version.Version.{Version}
+use Rattle.numbers.specs.declared.time.Time.{Time}
+use Rattle.numbers.specs.declared.version.Version.{Version}
 use Rattle.rules.specs.Input.{Input, answersClock, afterWrite, answersWrite, afterRenewal, answersRenewal, acknowledgesAll}
 use Rattle.rules.specs.Lists.{listOf, each}
 use Rattle.rules.specs.Operation.{Operation, unused, asking, sending, reading, ended, clockQuestions, readRequests, writeRequests, getsVersion, hearsClock, knowsClock}

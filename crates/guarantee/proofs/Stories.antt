@@ -12,8 +12,8 @@ use Rattle.quorum.specs.Sets.{full, setOf}
 use Rattle.quorum.specs.Systems.{System, Lawful}
 use Rattle.rules.specs.declared.message.Message.{Message}
 use Rattle.rules.specs.declared.message.Message.the-variants.{ClockQuestion, ClockAnswer, WriteRequest, WriteAnswer, ReadRequest, ReadAnswer, RenewalRequest, RenewalAnswer, Invalidation, InvalidationAnswer}
-use Rattle.rules.specs.declared.version.Version.{Version}
-use Rattle.rules.specs.Numbers.{starting}
+use Rattle.numbers.specs.declared.version.Version.{Version}
+use Rattle.numbers.specs.Numbers.{starting}
 use Rattle.rules.specs.Operation.{Operation, unused, asking, sending, reading, ended, Asking, Sending, Reading, counts, clockQuestions, readRequests, firstAsking, firstReading, hearsClock, knowsClock, getsVersion, hearsNamed, isWritten, hearsPair, isRead}
 use Rattle.rules.specs.State.{Frame, State, Said, refused, accepted, began, nothing-ended, write-ended, read-ended, Outcome, refuse}
 use Rattle.guarantee.specs.Story.{Story, Call, to-open, to-advance, to-write, to-read, to-deliver, outcomeOf, callAt, before, saidAt, loggedAt, part, Has, BeginsWrite, BeginsRead, Gets, EndsWrite, EndsRead}

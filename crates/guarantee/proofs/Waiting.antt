@@ -9,9 +9,9 @@ use lib.Dec.{eqb, leb, ltb}
 use lib.ListN.{length, getD, set, length-set}
 use Rattle.std.proofs.shelf.Tests.{cases-lt, cond-both, eqb-true, eqb-false, ne-eqb, ltb-true, or-cases, or-parts, or-from, false≢true}
 use Rattle.rules.specs.declared.pairs.Pair.{Pair}
-use Rattle.rules.specs.declared.version.Version.{Version}
+use Rattle.numbers.specs.declared.version.Version.{Version}
 use Rattle.rules.specs.Input.{names, queued, freed, used, fits}
-use Rattle.rules.specs.Numbers.{records}
+use Rattle.numbers.specs.Numbers.{records}
 use Rattle.guarantee.specs.Bounds.{IsPair, ArePairs, NamesOnce, ChainBounds}
 use Rattle.guarantee.proofs.Words.{set-from, set-beyond}
 

@@ -14,13 +14,13 @@ use Rattle.quorum.specs.Sets.{setOf}
 use Rattle.quorum.specs.Systems.{System}
 use Rattle.rules.specs.declared.message.Message.{Message}
 use Rattle.rules.specs.declared.message.Message.the-variants.{ClockQuestion, ClockAnswer, WriteRequest, WriteAnswer, ReadRequest, ReadAnswer, RenewalRequest, RenewalAnswer, Invalidation, InvalidationAnswer}
-use Rattle.rules.specs.declared.time.Time.{Time}
-use Rattle.rules.specs.declared.version.Version.{Version}
+use Rattle.numbers.specs.declared.time.Time.{Time}
+use Rattle.numbers.specs.declared.version.Version.{Version}
 use Rattle.rules.specs.Calls.{opened, clocksFit, opening, asOpened, whenOpen, hasNine, inputsStay, outputsStay, keepsDrift, laterInputs, laterOutputs, advanced, advancing}
 use Rattle.rules.specs.Calls.{enter, beginning, beginningWrite, beginningRead, operationAt, withOperation, isKnown, inRange, quiet, hearsClockAnswer, hearsWriteAnswer, hearsReadAnswer, receives, messageAt, delivering}
 use Rattle.rules.specs.Input.{Input, ledger, shutOut, invalidations, answersClock, afterWrite, answersWrite, afterRenewal, answersRenewal, acknowledgesAll, laterInput}
 use Rattle.rules.specs.Lists.{listOf}
-use Rattle.rules.specs.Numbers.{between, isVersion, last-time, longest}
+use Rattle.numbers.specs.Numbers.{between, isVersion, last-time, longest}
 use Rattle.rules.specs.Operation.{Operation, unused, asking, sending, reading, ended, firstAsking, firstReading, clockQuestions, readRequests, hearsClock, knowsClock, getsVersion, writeRequests, hearsNamed, isWritten, hearsPair, isRead}
 use Rattle.rules.specs.Output.{Output, good, valid, renewals, answersRead, afterAnswer, acknowledgement, afterInvalidation, answersInvalidation, laterOutput}
 use Rattle.rules.specs.Ranges.{numbersFit, stateFits, hasRoom}

@@ -14,7 +14,7 @@ use Rattle.quorum.specs.declared.member_set.MemberSet.{MemberSet}
 use Rattle.quorum.specs.Systems.{System}
 use Rattle.rules.specs.declared.message.Message.{Message}
 use Rattle.rules.specs.declared.message.Message.the-variants.{ClockQuestion, ClockAnswer, WriteRequest, WriteAnswer, ReadRequest, ReadAnswer, RenewalRequest, RenewalAnswer, Invalidation, InvalidationAnswer}
-use Rattle.rules.specs.declared.version.Version.{Version}
+use Rattle.numbers.specs.declared.version.Version.{Version}
 use Rattle.rules.specs.Calls.{operationAt, withOperation, enter}
 use Rattle.rules.specs.Input.{Input, answersClock, afterWrite, answersWrite, afterRenewal, answersRenewal, acknowledgesAll, laterInput}
 use Rattle.rules.specs.Lists.{listOf}

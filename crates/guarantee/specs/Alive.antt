@@ -12,11 +12,11 @@ use Rattle.rules.specs.declared.message.Message.{Message}
 use Rattle.rules.specs.declared.message.Message.the-variants.{ClockQuestion, WriteAnswer, RenewalRequest, RenewalAnswer, Invalidation, InvalidationAnswer}
 use Rattle.rules.specs.declared.parts.Parts.the-variants.{Object, Volume}
 use Rattle.rules.specs.declared.pairs.Pair.{Pair}
-use Rattle.rules.specs.declared.time.Time.{Time}
+use Rattle.numbers.specs.declared.time.Time.{Time}
 use Rattle.rules.specs.Calls.{messageAt}
 use Rattle.rules.specs.Input.{Input, chain}
 use Rattle.rules.specs.Lists.{each, pairs}
-use Rattle.rules.specs.Numbers.{none, versionOf}
+use Rattle.numbers.specs.Numbers.{none, versionOf}
 use Rattle.rules.specs.Operation.{unused}
 use Rattle.rules.specs.State.{State, accepted, nothing-ended, inputAt}
 use Rattle.guarantee.specs.Story.{Story, Call, to-open, to-advance, to-write, to-read, to-deliver, before, saidAt, BeginsWrite, BeginsRead, Gets, EndsWrite, EndsRead}

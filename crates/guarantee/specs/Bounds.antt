@@ -6,9 +6,9 @@ use Prim.Native.Nat.{ℕ, _+_, _≤_, _<_}
 use lib.ListN.{length, getD}
 use Rattle.quorum.specs.Systems.{System, Lawful}
 use Rattle.rules.specs.declared.pairs.Pair.{Pair}
-use Rattle.rules.specs.declared.version.Version.{Version}
+use Rattle.numbers.specs.declared.version.Version.{Version}
 use Rattle.rules.specs.Input.{Input, held, ledger, names, used}
-use Rattle.rules.specs.Numbers.{records, last-time, longest}
+use Rattle.numbers.specs.Numbers.{records, last-time, longest}
 use Rattle.rules.specs.Output.{Output, link}
 use Rattle.rules.specs.State.{State, inputAt, outputAt}
 use Rattle.guarantee.specs.Story.{Call, outcomeOf}

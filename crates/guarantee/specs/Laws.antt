@@ -9,7 +9,7 @@ use Rattle.quorum.specs.Sets.{has, setOf}
 use Rattle.quorum.specs.Systems.{System}
 use Rattle.rules.specs.declared.message.Message.the-variants.{WriteAnswer, Invalidation}
 use Rattle.rules.specs.declared.pairs.Pair.{Pair}
-use Rattle.rules.specs.declared.version.Version.{Version}
+use Rattle.numbers.specs.declared.version.Version.{Version}
 use Rattle.rules.specs.Calls.{operationAt}
 use Rattle.rules.specs.Input.{Input, held, ledger, chain, lastAck, shutOut, queuesFor, answersWrite, acknowledgesAll}
 use Rattle.rules.specs.Operation.{ended}

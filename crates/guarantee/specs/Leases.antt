@@ -4,14 +4,14 @@ use mathlib.Core.Bool.{true, false}
 use Prim.Native.Nat.{ℕ, _≤_, _<_}
 use lib.ListN.{length, take}
 use Rattle.quorum.specs.Systems.{System, Lawful}
-use Rattle.rules.specs.declared.epoch.Epoch.{Epoch}
+use Rattle.numbers.specs.declared.epoch.Epoch.{Epoch}
 use Rattle.rules.specs.declared.message.Message.the-variants.{RenewalAnswer}
 use Rattle.rules.specs.declared.parts.Parts.{Parts}
 use Rattle.rules.specs.declared.pairs.Pairs.{Pairs}
-use Rattle.rules.specs.declared.time.Time.{Time}
-use Rattle.rules.specs.declared.version.Version.{Version}
+use Rattle.numbers.specs.declared.time.Time.{Time}
+use Rattle.numbers.specs.declared.version.Version.{Version}
 use Rattle.rules.specs.Input.{ledger}
-use Rattle.rules.specs.Numbers.{leaseEnd}
+use Rattle.numbers.specs.Numbers.{leaseEnd}
 use Rattle.rules.specs.Renewals.{asksVolume}
 use Rattle.rules.specs.State.{State, inputAt, outputAt}
 use Rattle.guarantee.specs.Story.{Story, before, Has}

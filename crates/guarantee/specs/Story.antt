@@ -8,8 +8,8 @@ use lib.ListN.{length, getD, take, drop}
 use Rattle.quorum.specs.Systems.{System}
 use Rattle.rules.specs.declared.message.Message.{Message}
 use Rattle.rules.specs.declared.message.Message.the-variants.{WriteRequest}
-use Rattle.rules.specs.declared.time.Time.{Time}
-use Rattle.rules.specs.declared.version.Version.{Version}
+use Rattle.numbers.specs.declared.time.Time.{Time}
+use Rattle.numbers.specs.declared.version.Version.{Version}
 use Rattle.rules.specs.Calls.{opening, advancing, beginningWrite, beginningRead, delivering}
 use Rattle.rules.specs.State.{State, Outcome, Said, began, write-ended, read-ended}
 

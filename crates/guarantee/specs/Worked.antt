@@ -15,7 +15,7 @@ use Rattle.rules.specs.declared.pairs.Pair.{Pair}
 use Rattle.rules.specs.Calls.{opening, advancing}
 use Rattle.rules.specs.Input.{Input, ledger, chain, afterWrite, grants, answersRenewal, afterRenewal, firstInput, laterInput}
 use Rattle.rules.specs.Lists.{each, pairs}
-use Rattle.rules.specs.Numbers.{none, versionOf, live, leaseEnd}
+use Rattle.numbers.specs.Numbers.{none, versionOf, live, leaseEnd}
 use Rattle.rules.specs.Operation.{Sending, firstAsking, hearsClock, getsVersion, hearsNamed, counts, isWritten}
 use Rattle.rules.specs.Output.{Output, link, leased, afterAnswer, firstOutput}
 use Rattle.rules.specs.State.{Said, accepted, refused, Outcome}

@@ -8,11 +8,11 @@ use Rattle.quorum.specs.declared.member_set.MemberSet.{MemberSet}
 use Rattle.quorum.specs.Systems.{System}
 use Rattle.rules.specs.declared.message.Message.{Message}
 use Rattle.rules.specs.declared.message.Message.the-variants.{ClockQuestion, ClockAnswer, WriteRequest, WriteAnswer, ReadRequest, ReadAnswer, RenewalRequest, RenewalAnswer, Invalidation, InvalidationAnswer}
-use Rattle.rules.specs.declared.time.Time.{Time}
-use Rattle.rules.specs.declared.version.Version.{Version}
+use Rattle.numbers.specs.declared.time.Time.{Time}
+use Rattle.numbers.specs.declared.version.Version.{Version}
 use Rattle.rules.specs.Input.{answersClock, afterWrite, answersWrite, afterRenewal, answersRenewal, acknowledgesAll, firstInput, laterInput}
 use Rattle.rules.specs.Lists.{listOf, each}
-use Rattle.rules.specs.Numbers.{between, keepsPair, last-time, longest}
+use Rattle.numbers.specs.Numbers.{between, keepsPair, last-time, longest}
 use Rattle.rules.specs.Operation.{Operation, unused, asking, sending, reading, ended, Asking, Sending, Reading, firstAsking, firstReading, clockQuestions, readRequests, hearsClock, knowsClock, getsVersion, writeRequests, hearsNamed, isWritten, hearsPair, isRead}
 use Rattle.rules.specs.Output.{answersRead, afterAnswer, acknowledgement, afterInvalidation, answersInvalidation, firstOutput, laterOutput}
 use Rattle.rules.specs.Ranges.{Counts, numbersFit, operationFits, stateFits, hasRoom}

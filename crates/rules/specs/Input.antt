@@ -5,17 +5,17 @@ use Prim.Native.Nat.{ℕ, zero, suc, _+_, max}
 use lib.Dec.{eqb, leb, ltb}
 use lib.ListN.{length, getD, set, take, replicate}
 use Rattle.quorum.specs.Sets.{setOf}
-use Rattle.rules.specs.declared.epoch.Epoch.{Epoch}
+use Rattle.numbers.specs.declared.epoch.Epoch.{Epoch}
 use Rattle.rules.specs.declared.kept.Held.{Held}
 use Rattle.rules.specs.declared.kept.Ledger.{Ledger}
 use Rattle.rules.specs.declared.message.Message.{Message}
 use Rattle.rules.specs.declared.message.Message.the-variants.{ClockAnswer, WriteAnswer, RenewalAnswer, Invalidation}
 use Rattle.rules.specs.declared.parts.Parts.{Parts}
 use Rattle.rules.specs.declared.pairs.Pair.{Pair}
-use Rattle.rules.specs.declared.time.Time.{Time}
-use Rattle.rules.specs.declared.version.Version.{Version}
+use Rattle.numbers.specs.declared.time.Time.{Time}
+use Rattle.numbers.specs.declared.version.Version.{Version}
 use Rattle.rules.specs.Lists.{pairs, each}
-use Rattle.rules.specs.Numbers.{none, starting, records, shown, clockOf, raised}
+use Rattle.numbers.specs.Numbers.{none, starting, records, shown, clockOf, raised}
 use Rattle.rules.specs.Renewals.{asksObject, asksVolume}
 
 pub record Input : Type 0 where

@@ -1,9 +1,7 @@
 pub mod Answers
 pub mod Calls
-pub mod Checked
 pub mod Input
 pub mod Lists
-pub mod Numbers
 pub mod Operation
 pub mod Output
 pub mod Ranges

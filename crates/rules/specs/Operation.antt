@@ -10,9 +10,9 @@ use Rattle.quorum.specs.Sets.{has, joined, setOf}
 use Rattle.quorum.specs.Systems.{System}
 use Rattle.rules.specs.declared.message.Message.{Message}
 use Rattle.rules.specs.declared.message.Message.the-variants.{ClockQuestion, WriteRequest, ReadRequest}
-use Rattle.rules.specs.declared.version.Version.{Version}
+use Rattle.numbers.specs.declared.version.Version.{Version}
 use Rattle.rules.specs.Lists.{each}
-use Rattle.rules.specs.Numbers.{none, versionOf}
+use Rattle.numbers.specs.Numbers.{none, versionOf}
 
 -- a write that asks for clocks: who answered, and the highest clock among the answers
 pub record Asking : Type 0 where

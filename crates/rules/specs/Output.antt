@@ -6,7 +6,7 @@ use lib.Dec.{eqb, leb, ltb}
 use lib.ListN.{length, getD, set, replicate}
 use Rattle.quorum.specs.Sets.{setOf}
 use Rattle.quorum.specs.Systems.{System}
-use Rattle.rules.specs.declared.epoch.Epoch.{Epoch}
+use Rattle.numbers.specs.declared.epoch.Epoch.{Epoch}
 use Rattle.rules.specs.declared.kept.Copied.{Copied}
 use Rattle.rules.specs.declared.kept.Link.{Link}
 use Rattle.rules.specs.declared.kept.Newest.{Newest}
@@ -15,10 +15,10 @@ use Rattle.rules.specs.declared.message.Message.the-variants.{ReadAnswer, Rene
 use Rattle.rules.specs.declared.parts.Parts.{Parts}
 use Rattle.rules.specs.declared.pairs.Pair.{Pair}
 use Rattle.rules.specs.declared.pairs.Pairs.{Pairs}
-use Rattle.rules.specs.declared.time.Time.{Time}
-use Rattle.rules.specs.declared.version.Version.{Version}
+use Rattle.numbers.specs.declared.time.Time.{Time}
+use Rattle.numbers.specs.declared.version.Version.{Version}
 use Rattle.rules.specs.Lists.{pairs, listOf, each}
-use Rattle.rules.specs.Numbers.{none, raised, later, longer, live, leaseEnd}
+use Rattle.numbers.specs.Numbers.{none, raised, later, longer, live, leaseEnd}
 use Rattle.rules.specs.Renewals.{asksObject, asksVolume, partsOf}
 
 pub record Output : Type 0 where

@@ -9,9 +9,9 @@ use Rattle.rules.specs.declared.message.Message.{Message}
 use Rattle.rules.specs.declared.message.Message.the-variants.{ClockQuestion, ClockAnswer, WriteRequest, WriteAnswer, ReadRequest, ReadAnswer, RenewalRequest, RenewalAnswer, Invalidation, InvalidationAnswer}
 use Rattle.rules.specs.declared.pairs.Pair.{Pair}
 use Rattle.rules.specs.declared.pairs.Pairs.{Pairs}
-use Rattle.rules.specs.declared.version.Version.{Version}
+use Rattle.numbers.specs.declared.version.Version.{Version}
 use Rattle.rules.specs.Lists.{listOf}
-use Rattle.rules.specs.Numbers.{between, isVersion, shown, last-time, longest}
+use Rattle.numbers.specs.Numbers.{between, isVersion, shown, last-time, longest}
 use Rattle.rules.specs.Operation.{Operation, unused, asking, sending, reading, ended, Asking, Sending, Reading, namedBy}
 use Rattle.rules.specs.Renewals.{asksObject, asksVolume}
 

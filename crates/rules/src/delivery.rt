@@ -1,6 +1,6 @@
-use crate::version::Version;
-use crate::version::VersionDebug;
-use crate::version::VersionPartialEq;
+use numbers::Version;
+use numbers::VersionDebug;
+use numbers::VersionPartialEq;
 
 // What a delivery says: whether an operation ended with it, and how.
 #[derive(Clone, Copy, Debug, PartialEq, Eq)]

@@ -1,8 +1,8 @@
 // What the servers keep, in plain records. The servers themselves, with their steps, are built
 // from these in crates of their own.
-use crate::epoch::Epoch;
-use crate::time::Time;
-use crate::version::Version;
+use numbers::Epoch;
+use numbers::Time;
+use numbers::Version;
 
 // What an input server keeps of one object.
 #[derive(Clone, Copy)]

@@ -2,9 +2,9 @@ ghost use mathlib.Core.Path.{_≡_};
 ghost use mathlib.Core.List.{[], _∷_};
 ghost use lib.ListN.{length};
 ghost use Rattle.rules.specs.Lists.{listOf, pairAt, pairs};
-use crate::version::Version;
-use crate::version::VersionDebug;
-use crate::version::VersionPartialEq;
+use numbers::Version;
+use numbers::VersionDebug;
+use numbers::VersionPartialEq;
 
 // An object and a version of it.
 #[derive(Clone, Copy, Debug, PartialEq, Eq)]

@@ -1,8 +1,8 @@
 ghost use mathlib.Core.Path.{_≡_};
 ghost use Prim.Native.Nat.{_^_, _≤_};
 ghost use lib.Dec.{leb};
-ghost use Rattle.rules.specs.Numbers.{leaseEnd, keepsPair};
-ghost use Rattle.rules.specs.Checked.{Checked};
+ghost use Rattle.numbers.specs.Numbers.{leaseEnd, keepsPair};
+ghost use Rattle.numbers.specs.Checked.{Checked};
 use crate::time::Time;
 
 // A time that a clock can show: 0 to 2^40.

@@ -1,5 +1,5 @@
 ghost use mathlib.Core.Path.{_≡_};
-ghost use Rattle.rules.specs.Numbers.{later};
+ghost use Rattle.numbers.specs.Numbers.{later};
 
 // A count of how often an input server dropped the waiting invalidations of an output server.
 // Epochs count from 1.

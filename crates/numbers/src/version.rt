@@ -1,6 +1,6 @@
 ghost use mathlib.Core.Path.{_≡_};
 ghost use lib.Dec.{ltb};
-ghost use Rattle.rules.specs.Numbers.{versionOf, clockOf, nextVersion, isVersion, raised};
+ghost use Rattle.numbers.specs.Numbers.{versionOf, clockOf, nextVersion, isVersion, raised};
 
 // A version: clock × 65,536 + operation number. 0 stands for "none".
 #[derive(Clone, Copy, Debug, PartialEq, Eq)]
