@@ -10,6 +10,7 @@ use lib.ListN.{length, getD, set, length-append, length-set, List·getD-eq-defau
 use lib.Seq.{getD-set-same, getD-set-other}
 use Rattle.std.proofs.shelf.Ways.{tells}
 use Rattle.std.proofs.shelf.Tests.{cases-eq, cases-lt, cond-both, eqb-true, eqb-false}
+use Rattle.rules.proofs.Places.{set-beyond}
 use Rattle.rules.specs.Lists.{each}
 
 -- ---- a function changed at one place
@@ -36,12 +37,6 @@ set-at l i n x d h = elim (cases-eq i n) [
   | inl e ↦ subst (λ (k : ℕ). getD (set l i x) k d ≡ at i x (λ k. getD l k d) k) e (getD-set-same l i x d h ∙ sym (at-same i x (λ k. getD l k d)))
   | inr e ↦ getD-set-other l i n x d (λ f. e (sym f)) ∙ sym (at-miss i n x (λ k. getD l k d) e)
 ]
-
--- a place beyond the list changes nothing
-pub set-beyond : {A : Type 0} (l : List A) (i : ℕ) (x : A) → length l ≤ i → set l i x ≡ l
-set-beyond [] i x h = refl
-set-beyond (y ∷ l) zero x h = absurd (omega arith)
-set-beyond (y ∷ l) (suc i) x h = ap (λ r. y ∷ r) (set-beyond l i x (omega arith))
 
 -- each place of a changed list is as it was, or has the new element
 pub set-from : {A : Type 0} (l : List A) (i n : ℕ) (x d : A) → (getD (set l i x) n d ≡ getD l n d) ⊎ ((i ≡ n) × (getD (set l i x) n d ≡ x))

@@ -1,1 +1,4 @@
+pub mod Logging
+pub mod Places
+pub mod Rising
 pub mod Taken

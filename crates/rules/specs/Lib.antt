@@ -7,3 +7,4 @@ pub mod Output
 pub mod Ranges
 pub mod Renewals
 pub mod State
+pub mod Steps

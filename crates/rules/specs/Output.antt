@@ -73,10 +73,14 @@ valid inputs n o O = covers O o n && inputs .reads (setOf n (good O o))
 
 -- ---- read request
 
--- a renewal request to each input server below n that is not good
+-- a renewal request to input server i, unless it is good: for the copy if it is not sound, for a lease if none is live
+abbrev pub renewal : ℕ → ℕ → Output → ℕ → List Message
+renewal j o O i = cond (good O o i) []
+    (RenewalRequest j i (partsOf (not (sound O o i)) (not (leased O i))) o (O .clock) ∷ [])
+
+-- the same for each input server below n
 abbrev pub renewals : ℕ → ℕ → ℕ → Output → List Message
-renewals j n o O = each n (λ i. cond (good O o i) []
-    (RenewalRequest j i (partsOf (not (sound O o i)) (not (leased O i))) o (O .clock) ∷ []))
+renewals j n o O = each n (renewal j o O)
 
 abbrev pub answersRead : System → ℕ → ℕ → ℕ → ℕ → Output → List Message
 answersRead inputs j p n o O = cond (valid inputs n o O)

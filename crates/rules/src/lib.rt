@@ -1,6 +1,7 @@
 // The messages and records of the subject, and the rules of the whole field as definitions (specs/).
 mod delivery;
 mod kept;
+mod log;
 mod message;
 mod pairs;
 mod parts;
@@ -13,6 +14,7 @@ pub use kept::Held;
 pub use kept::Ledger;
 pub use kept::Link;
 pub use kept::Newest;
+pub use log::has_room;
 pub use message::Message;
 pub use message::MessageDebug;
 pub use message::MessagePartialEq;

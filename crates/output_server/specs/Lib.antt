@@ -1,0 +1,4 @@
+pub mod Views
+pub mod Pairwise
+pub mod Steps
+pub mod Renewing

@@ -1,0 +1,12 @@
+use numbers::Time;
+use rules::Link;
+use rules::Newest;
+
+// What answers reads: copies from the input servers, each as good as the lease and the word of the
+// input server that gave it.
+#[derive(Drop)]
+pub struct OutputServer {
+    pub(crate) clock: Time,
+    pub(crate) newest: [Newest; 16],
+    pub(crate) links: [Link; 8],
+}
