@@ -10,7 +10,7 @@ use lib.ListN.{length, getD, set, length-append, length-set, List·getD-eq-defau
 use lib.Seq.{getD-set-same, getD-set-other}
 use Rattle.std.proofs.shelf.Ways.{tells}
 use Rattle.std.proofs.shelf.Tests.{cases-eq, cases-lt, cond-both, eqb-true, eqb-false}
-use Rattle.rules.proofs.Places.{set-beyond}
+pub use Rattle.rules.proofs.Places.{set-beyond}
 use Rattle.rules.specs.Lists.{each}
 
 -- ---- a function changed at one place

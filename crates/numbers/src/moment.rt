@@ -1,5 +1,5 @@
 ghost use mathlib.Core.Path.{_≡_};
-ghost use Prim.Native.Nat.{_^_, _≤_};
+ghost use Prim.Native.Nat.{_+_, _^_, _≤_};
 ghost use lib.Dec.{leb};
 ghost use Rattle.numbers.specs.Numbers.{leaseEnd, keepsPair};
 ghost use Rattle.numbers.specs.Checked.{Checked};
@@ -40,6 +40,23 @@ impl Moment {
         ensures { λ r. ⌜ r .0 ≡ self .micros ⌝ }
     {
         Time(self.micros)
+    }
+
+    // So much later, unless the clock cannot show it.
+    pub fn later(self, increment: u64) -> Option<Moment>
+        ensures { λ r. ⌜ Checked (λ m. m .micros) (leb (self .micros + increment) (2 ^ 40)) (self .micros + increment) r ⌝ }
+    {
+        if increment > Time::LAST.0 - self.micros {
+            return None;
+        }
+        Some(Moment { micros: self.micros + increment })
+    }
+
+    // When a lease ends that is granted at this moment, on the clock of the server that grants it.
+    pub fn plus(self, length: LeaseLength) -> Time
+        ensures { λ r. ⌜ r .0 ≡ self .micros + length .micros ⌝ }
+    {
+        Time(self.micros + length.micros as u64)
     }
 
     // When a lease ends that was asked for at this moment: the slowest clock that the drift

@@ -8,7 +8,7 @@ use Rattle.rules.specs.Output.{Output, takesNewest}
 use Rattle.output_server.specs.declared.server.OutputServer.{OutputServer}
 
 abbrev pub outputOf : OutputServer → Output
-outputOf s = record { clock = s .clock; newest = s .newest; links = s .links }
+outputOf s = record { clock = record { 0 = s .clock .micros }; newest = s .newest; links = s .links }
 
 -- the server with what an accepted copy makes of its newest pair
 abbrev pub withNewest : Bool → ℕ → Version → ℕ → Output → Output

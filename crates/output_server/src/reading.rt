@@ -88,7 +88,7 @@ impl OutputServer {
         requires { ⌜ input < 8 ⌝ }
         ensures { λ r. ⌜ r ≡ leased (outputOf (now (self .entry))) input ⌝ }
     {
-        self.links[input as usize].until.is_live_at(self.clock)
+        self.links[input as usize].until.is_live_at(self.clock.time())
     }
 
     // A renewal request to every input server that is not good, rising. Says how many messages are
@@ -134,7 +134,7 @@ impl OutputServer {
             input,
             parts,
             object: object.get(),
-            stamp: self.clock,
+            stamp: self.clock.time(),
         };
         made + 1
     }

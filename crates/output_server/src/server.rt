@@ -1,4 +1,4 @@
-use numbers::Time;
+use numbers::Moment;
 use rules::Link;
 use rules::Newest;
 
@@ -6,7 +6,7 @@ use rules::Newest;
 // input server that gave it.
 #[derive(Drop)]
 pub struct OutputServer {
-    pub(crate) clock: Time,
+    pub(crate) clock: Moment,
     pub(crate) newest: [Newest; 16],
     pub(crate) links: [Link; 8],
 }

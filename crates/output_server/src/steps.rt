@@ -11,6 +11,7 @@ use crate::server::OutputServer;
 use numbers::Drift;
 use numbers::Epoch;
 use numbers::InputNumber;
+use numbers::Moment;
 use numbers::ObjectNumber;
 use numbers::OutputNumber;
 use numbers::ServerCount;
@@ -28,8 +29,8 @@ use rules::has_room;
 
 impl OutputServer {
     // A server that was given nothing yet.
-    pub fn new(clock: Time) -> OutputServer
-        ensures { λ r. ⌜ outputOf r ≡ firstOutput clock ⌝ }
+    pub fn new(clock: Moment) -> OutputServer
+        ensures { λ r. ⌜ outputOf r ≡ firstOutput (record { 0 = clock .micros }) ⌝ }
     {
         let copied = Copied {
             got: Version::NONE,
@@ -55,18 +56,17 @@ impl OutputServer {
     pub fn clock(&self) -> Time
         ensures { λ r. ⌜ r ≡ outputOf (now (self .entry)) .clock ⌝ }
     {
-        self.clock
+        self.clock.time()
     }
 
     // Time passes. A clock that would pass the last time stays.
     pub fn tick(&mut self, increment: u64) -> Result<(), Refusal>
         ensures { λ r. ⌜ ticking increment (outputOf (now (self .entry))) ≡ (acceptance r, outputOf (now (self .exit))) ⌝ }
     {
-        let clock = self.clock.0;
-        if clock > Time::LAST.0 || increment > Time::LAST.0 - clock {
-            return Err(Refusal::PastLastTime);
+        match self.clock.later(increment) {
+            Some(clock) => self.clock = clock,
+            None => return Err(Refusal::PastLastTime),
         }
-        self.clock = Time(clock + increment);
         Ok(())
     }
 

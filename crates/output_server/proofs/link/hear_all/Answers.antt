@@ -13,4 +13,4 @@ loop-place-again c =
 pub returns : need.returns
 returns c =
     hears-whole (c .args .list) (c .loop-place .place) (c .args .link .now) (c .loop-place .link)
-      (omega (arith, c .loop-place-test .left, c .loop-place .kept, c .len-place-end .ensures)) (c .loop-place .inv)
+      (omega (arith, c .loop-place-test .left, c .len-place-end .ensures)) (c .loop-place .inv)

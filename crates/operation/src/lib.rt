@@ -1,0 +1,3 @@
+mod ranges;
+
+pub use ranges::Counts;
