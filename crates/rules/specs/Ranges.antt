@@ -71,7 +71,7 @@ operationFits known room (InvalidationAnswer j i l) = true
 -- ---- states of operations
 
 -- output servers below m for the input servers below n, and nothing for the others
-abbrev pub namedFit : Counts → ℕ → List MemberSet → Bool
+unfoldable pub namedFit : Counts → ℕ → List MemberSet → Bool
 namedFit c zero named = true
 namedFit c (suc i) named = namedFit c i named
     && cond (ltb i (c .n)) (ltb (namedBy named i) (2 ^ c .m)) (eqb (namedBy named i) 0)

@@ -5,6 +5,7 @@ use lib.Dec.{lit<, lit≤}
 use Rattle.quorum.proofs.Laws.{majority-lawful, read-one-write-all-lawful}
 use Rattle.rules.specs.Calls.{opening, advancing, beginningWrite, beginningRead, delivering, receives}
 use Rattle.rules.specs.Input.{takesWrite, queuesFor, queuesAll, acknowledgesAll}
+use Rattle.rules.specs.Ranges.{namedFit}
 use Rattle.rules.specs.Output.{hearsAll, afterAnswer, afterInvalidation}
 use Rattle.guarantee.specs.Story.{outcomeOf}
 use Rattle.guarantee.specs.Alive.{writeThenRead, WriteThenRead, underLease, UnderLease, leaseOver, LeaseOver, recordsOut, RecordsOut}
@@ -15,7 +16,7 @@ _then_ : {A B : Type 0} → A → B → A × B
 a then b = (a, b)
 
 write-then-read : WriteThenRead
-unfolding ones opening advancing beginningWrite beginningRead delivering receives takesWrite queuesFor queuesAll acknowledgesAll hearsAll afterAnswer afterInvalidation outcomeOf writeThenRead
+unfolding ones opening advancing beginningWrite beginningRead delivering receives takesWrite queuesFor queuesAll acknowledgesAll hearsAll afterAnswer afterInvalidation namedFit outcomeOf writeThenRead
 write-then-read = record {
   covered = record {
     inputs = majority-lawful 1 (lit≤ tt) (lit≤ tt);
@@ -40,7 +41,7 @@ write-then-read = record {
 }
 
 under-lease : UnderLease
-unfolding ones opening advancing beginningWrite beginningRead delivering receives takesWrite queuesFor queuesAll acknowledgesAll hearsAll afterAnswer afterInvalidation outcomeOf writeThenRead underLease
+unfolding ones opening advancing beginningWrite beginningRead delivering receives takesWrite queuesFor queuesAll acknowledgesAll hearsAll afterAnswer afterInvalidation namedFit outcomeOf writeThenRead underLease
 under-lease = record {
   covered = record {
     inputs = majority-lawful 1 (lit≤ tt) (lit≤ tt);
@@ -72,7 +73,7 @@ under-lease = record {
 }
 
 lease-over : LeaseOver
-unfolding ones opening advancing beginningWrite beginningRead delivering receives takesWrite queuesFor queuesAll acknowledgesAll hearsAll afterAnswer afterInvalidation outcomeOf leaseOver
+unfolding ones opening advancing beginningWrite beginningRead delivering receives takesWrite queuesFor queuesAll acknowledgesAll hearsAll afterAnswer afterInvalidation namedFit outcomeOf leaseOver
 lease-over = record {
   covered = record {
     inputs = majority-lawful 1 (lit≤ tt) (lit≤ tt);
@@ -108,7 +109,7 @@ lease-over = record {
 }
 
 records-out : RecordsOut
-unfolding ones opening advancing beginningWrite beginningRead delivering receives takesWrite queuesFor queuesAll acknowledgesAll hearsAll afterAnswer afterInvalidation outcomeOf recordsOut
+unfolding ones opening advancing beginningWrite beginningRead delivering receives takesWrite queuesFor queuesAll acknowledgesAll hearsAll afterAnswer afterInvalidation namedFit outcomeOf recordsOut
 records-out = record {
   covered = record {
     inputs = majority-lawful 1 (lit≤ tt) (lit≤ tt);
