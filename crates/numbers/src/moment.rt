@@ -49,7 +49,9 @@ impl Moment {
         if increment > Time::LAST.0 - self.micros {
             return None;
         }
-        Some(Moment { micros: self.micros + increment })
+        Some(Moment {
+            micros: self.micros + increment,
+        })
     }
 
     // When a lease ends that is granted at this moment, on the clock of the server that grants it.

@@ -32,7 +32,7 @@ pub clocks-have-room : (i o : System) (own : ℕ) (a : Asking) (m : Message) (k 
     → 0 ≡ refusalAlone i o own (asking a) m → m ≡ ClockAnswer k p c → (a .clock < 65535) × (c < 65535)
 clocks-have-room i o own a m k p c e f =
     let fit = fits-alone i o own (askingFits (widest i o) own a) (hasRoom (asking a)) (ClockAnswer k p c)
-          (subst (λ (x : Message). 0 ≡ refusalAlone i o own (asking a) x) f e) in
+    (subst (λ (x : Message). 0 ≡ refusalAlone i o own (asking a) x) f e) in
     let n = and-parts (ltb k (i .count)) (between 1 65534 c) (fit .1) in
     let high = leb-true c 65534 (and-parts (leb 1 c) (leb c 65534) (n .1) .1) in
     let r = and-parts (eqb p own && (between 1 1024 own && askingFits (widest i o) own a)) (hasRoom (asking a)) (fit .2) in

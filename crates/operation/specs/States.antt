@@ -4,6 +4,8 @@ use Rattle.rules.specs.Operation.{Asking, Sending, Reading, unused, asking, sen
 use Rattle.operation.specs.declared.asking.AskingWrite.{AskingWrite}
 use Rattle.operation.specs.declared.sending.SendingWrite.{SendingWrite}
 use Rattle.operation.specs.declared.read.Read.{Read}
+use Rattle.operation.specs.declared.table.Operation.{Operation}
+use Rattle.operation.specs.declared.table.Operation.the-variants as Place
 
 abbrev pub askingOf : AskingWrite → Asking
 askingOf w = record {
@@ -31,3 +33,11 @@ readingOf r = record {
   version = r .version;
   value = r .value;
 }
+
+-- a place of the table
+abbrev pub operationOf : Operation → Rules.Operation
+operationOf Place.Unused = unused
+operationOf (Place.Asking w) = asking (askingOf w)
+operationOf (Place.Sending w) = sending (sendingOf w)
+operationOf (Place.Reading r) = reading (readingOf r)
+operationOf Place.Ended = ended

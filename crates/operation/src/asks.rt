@@ -1,6 +1,7 @@
 // What an asking write does with an answer.
 ghost use mathlib.Core.Path.{_≡_};
-ghost use mathlib.Core.Bool.{_&&_};
+ghost use mathlib.Core.Bool.{not};
+ghost use lib.Dec.{eqb};
 ghost use Prim.Native.Nat.{_<_, _≤_};
 ghost use Rattle.numbers.specs.Numbers.{between};
 ghost use Rattle.rules.specs.Operation.{asking, firstAsking, hearsClock};
@@ -63,7 +64,21 @@ impl AskingWrite {
         ensures { λ r. ⌜ refusalNumber r ≡ refusalAlone (I·QuorumSystem .meaning (now (inputs .entry))) (O·QuorumSystem .meaning (now (outputs .entry))) (now (self .entry) .operation) (asking (askingOf (now (self .entry)))) (now (message .entry)) ⌝ }
     {
         let fits = self.fits(widest(inputs, outputs), self.operation);
-        refusal_alone(message, inputs, outputs, self.operation, fits, self.clock != 65_535)
+        refusal_alone(
+            message,
+            inputs,
+            outputs,
+            self.operation,
+            fits,
+            self.has_room(),
+        )
+    }
+
+    // Whether there is a clock above the highest that was gathered.
+    pub(crate) fn has_room(&self) -> bool
+        ensures { λ r. ⌜ r ≡ not (eqb (now (self .entry) .clock) 65535) ⌝ }
+    {
+        self.clock != 65_535
     }
 
     // Whether the state is in range as that of the operation.

@@ -42,13 +42,17 @@ impl Counts {
                 ..
             } => *input < self.inputs && *object < self.objects && version.is_version(),
             Message::WriteAnswer {
-                input, shut_out, ..
+                input,
+                shut_out,
+                ..
             } => *input < self.inputs && shut_out.is_within(self.outputs),
             Message::ReadRequest { output, object, .. } => {
                 *output < self.outputs && *object < self.objects
             }
             Message::ReadAnswer {
-                output, version, ..
+                output,
+                version,
+                ..
             } => *output < self.outputs && version.is_version(),
             Message::RenewalRequest {
                 output,

@@ -79,7 +79,13 @@ impl Read {
     }
 
     // The pair of one output server.
-    fn hear<O: QuorumSystem>(self, output: u8, version: Version, value: u64, outputs: &O) -> ReadStep
+    fn hear<O: QuorumSystem>(
+        self,
+        output: u8,
+        version: Version,
+        value: u64,
+        outputs: &O,
+    ) -> ReadStep
         ensures { λ r. ⌜ readStep r ≡ readsNext (meaning (now (outputs .entry))) (hearsPair output version value (readingOf self)) ⌝ }
     {
         let read = self.with_pair(output, version, value);

@@ -62,7 +62,9 @@ impl SendingWrite {
         }
         match message {
             Message::WriteAnswer {
-                input, shut_out, ..
+                input,
+                shut_out,
+                ..
             } => Ok(self.hear(*input, *shut_out, inputs, outputs)),
             _ => Ok(SendingStep::Sending(self)),
         }

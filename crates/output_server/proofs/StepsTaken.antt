@@ -47,7 +47,7 @@ pub renewal-taken : (drift j i : ℕ) (r : Renewal) (O : Output) (made : ℕ) (l
     → made′ ≡ made + length (acknowledgement j i (r .list))
     → log′ ≡ sets log made (acknowledgement j i (r .list))
     → answerStep drift j i (r .parts) (r .object .number) (r .version) (r .value) (r .epoch) (record { 0 = r .stamp .micros }) (r .length .micros) (r .list) O made log
-      ≡ step (Ok made′) S log′
+    ≡ step (Ok made′) S log′
 unfolding afterAnswer
 renewal-taken drift j i r O made log b Q S made′ log′ h eb eq es em el =
     let new = acknowledgement j i (r .list) in

@@ -66,7 +66,11 @@ impl OutputServer {
         requires { ⌜ input < 8 ⌝ }
         ensures { λ r. ⌜ r .0 ≡ cond (good (outputOf (now (self .entry))) (object .number) input) (bitOr (set .0) (2 ^ input)) (set .0) ⌝ }
     {
-        if self.is_good(input, object) { set.with(input) } else { set }
+        if self.is_good(input, object) {
+            set.with(input)
+        } else {
+            set
+        }
     }
 
     fn is_good(&self, input: u8, object: ObjectNumber) -> bool
@@ -81,14 +85,19 @@ impl OutputServer {
         ensures { λ r. ⌜ r ≡ sound (outputOf (now (self .entry))) (object .number) input ⌝ }
     {
         let place = object.get() as usize;
-        is_sound(self.links[input as usize].copies[place], self.links[input as usize].epoch)
+        is_sound(
+            self.links[input as usize].copies[place],
+            self.links[input as usize].epoch,
+        )
     }
 
     fn is_leased(&self, input: u8) -> bool
         requires { ⌜ input < 8 ⌝ }
         ensures { λ r. ⌜ r ≡ leased (outputOf (now (self .entry))) input ⌝ }
     {
-        self.links[input as usize].until.is_live_at(self.clock.time())
+        self.links[input as usize]
+            .until
+            .is_live_at(self.clock.time())
     }
 
     // A renewal request to every input server that is not good, rising. Says how many messages are

@@ -65,8 +65,21 @@ fn renew(link: &mut Link, renewal: &Renewal, drift: Drift) -> bool
     ensures after { λ _. ⌜ now (link .exit) ≡ renewed (drift .thousandths) (now (renewal .entry)) (now (link .entry)) ⌝ }
 {
     hear_all(link, renewal.list);
-    let accepted = take_copy(link, renewal.parts, renewal.object, renewal.version, renewal.epoch);
-    take_lease(link, renewal.parts, renewal.epoch, renewal.stamp, renewal.length, drift);
+    let accepted = take_copy(
+        link,
+        renewal.parts,
+        renewal.object,
+        renewal.version,
+        renewal.epoch,
+    );
+    take_lease(
+        link,
+        renewal.parts,
+        renewal.epoch,
+        renewal.stamp,
+        renewal.length,
+        drift,
+    );
     accepted
 }
 

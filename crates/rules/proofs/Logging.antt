@@ -29,8 +29,9 @@ logged-more f n made next l log more next′ log′ a b m c d =
     let e = each-more n f in
     let z = length-append (each n f) (f n) in
     let y = ap length e in
-    let x = ap length m in
-    (omega arith,
+    let x = ap length m in (
+      omega arith,
       d ∙ ap (λ (k : List _). sets k next more) b ∙ ap (λ (k : ℕ). sets (sets l made (each n f)) k more) a
-        ∙ ap (sets (sets l made (each n f)) (made + length (each n f))) m
-        ∙ sets-append (each n f) (f n) l made ∙ ap (sets l made) (sym e))
+          ∙ ap (sets (sets l made (each n f)) (made + length (each n f))) m
+          ∙ sets-append (each n f) (f n) l made ∙ ap (sets l made) (sym e),
+    )

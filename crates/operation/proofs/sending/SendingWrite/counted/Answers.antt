@@ -9,7 +9,7 @@ use Rattle.operation.proofs.sending.SendingWrite.counted.Needs as need
 pub loop-output-again : need.loop-output-again
 loop-output-again g c =
     set-more (counts (g .I·QuorumSystem .meaning (c .args .inputs .now)) (g .I·QuorumSystem .meaning (c .args .inputs .now) .count) (c .args .self .now .named))
-      (c .loop-output .output) (c .loop-output .set .0) (c .with-counted-set .result .0) (c .loop-output .inv) (c .with-counted-set .ensures)
+    (c .loop-output .output) (c .loop-output .set .0) (c .with-counted-set .result .0) (c .loop-output .inv) (c .with-counted-set .ensures)
 
 pub returns : need.returns
 returns g c =

@@ -18,8 +18,8 @@ unfolding namedFit
 loop-input-again c =
     c .and-named-fits-fit .ensures
     ∙ ap (λ (b : Bool). b && cond (ltb (c .loop-input .input) (c .args .counts .inputs))
-        (ltb (namedBy (c .args .self .now .named) (c .loop-input .input)) (2 ^ (c .args .counts .outputs)))
-        (eqb (namedBy (c .args .self .now .named) (c .loop-input .input)) 0)) (c .loop-input .inv)
+    (ltb (namedBy (c .args .self .now .named) (c .loop-input .input)) (2 ^ (c .args .counts .outputs)))
+    (eqb (namedBy (c .args .self .now .named) (c .loop-input .input)) 0)) (c .loop-input .inv)
     ∙ sym (ap (λ (n : ℕ). namedFit (countsOf (c .args .counts)) n (c .args .self .now .named)) (add-one (c .loop-input .input)))
 
 pub returns : need.returns

@@ -9,7 +9,7 @@ use Rattle.operation.proofs.sending.SendingWrite.namers.Needs as need
 pub loop-input-again : need.loop-input-again
 loop-input-again c =
     set-more (λ i. has (namedBy (c .args .self .now .named) i) (c .args .output)) (c .loop-input .input) (c .loop-input .set .0) (c .with-namer-set .result .0)
-      (c .loop-input .inv) (c .with-namer-set .ensures)
+    (c .loop-input .inv) (c .with-namer-set .ensures)
 
 pub returns : need.returns
 returns c =

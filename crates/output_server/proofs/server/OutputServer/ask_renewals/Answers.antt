@@ -15,13 +15,19 @@ use Rattle.output_server.proofs.server.OutputServer.ask_renewals.Needs as need
 pub loop-input-again : need.loop-input-again
 loop-input-again c =
     let r = logged-more (renewal (c .args .me .number) (c .args .object .number) (outputOf (c .args .self .now))) (c .loop-input .input)
-          (c .args .made) (c .loop-input .next) (c .args .log .now) (c .loop-input .log)
-          (renewal (c .args .me .number) (c .args .object .number) (outputOf (c .args .self .now)) (c .loop-input .input))
-          (c .ask-renewal-next .result) (c .ask-renewal-next .last .log)
-          (c .loop-input .inv .0) (c .loop-input .inv .1) refl (c .ask-renewal-next .ensures .says) (c .ask-renewal-next .ensures .after) in
-    (r .0, r .1,
-      omega (arith, renewal-one (c .args .me .number) (c .args .object .number) (outputOf (c .args .self .now)) (c .loop-input .input),
-        c .ask-renewal-next .ensures .says, c .loop-input .inv .2))
+    (c .args .made) (c .loop-input .next) (c .args .log .now) (c .loop-input .log)
+    (renewal (c .args .me .number) (c .args .object .number) (outputOf (c .args .self .now)) (c .loop-input .input))
+    (c .ask-renewal-next .result) (c .ask-renewal-next .last .log)
+    (c .loop-input .inv .0) (c .loop-input .inv .1) refl (c .ask-renewal-next .ensures .says) (c .ask-renewal-next .ensures .after) in (
+      r .0,
+      r .1,
+      omega (
+        arith,
+        renewal-one (c .args .me .number) (c .args .object .number) (outputOf (c .args .self .now)) (c .loop-input .input),
+        c .ask-renewal-next .ensures .says,
+        c .loop-input .inv .2,
+      ),
+    )
 
 pub returns : need.returns
 returns c =
