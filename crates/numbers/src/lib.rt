@@ -3,6 +3,8 @@
 mod epoch;
 mod moment;
 mod numbering;
+#[cfg(test)]
+mod tests;
 mod time;
 mod version;
 

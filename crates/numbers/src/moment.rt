@@ -30,10 +30,11 @@ impl Moment {
     pub fn new(time: Time) -> Option<Moment>
         ensures { λ r. ⌜ Checked (λ m. m .micros) (leb (time .0) (2 ^ 40)) (time .0) r ⌝ }
     {
-        if time.0 > 1 << 40 {
-            return None;
+        if time.0 <= Time::LAST.0 {
+            Some(Moment { micros: time.0 })
+        } else {
+            None
         }
-        Some(Moment { micros: time.0 })
     }
 
     pub fn time(self) -> Time
@@ -75,10 +76,11 @@ impl LeaseLength {
     pub fn new(micros: u32) -> Option<LeaseLength>
         ensures { λ r. ⌜ Checked (λ l. l .micros) (leb micros 1000000000) micros r ⌝ }
     {
-        if micros > 1_000_000_000 {
-            return None;
+        if micros <= 1_000_000_000 {
+            Some(LeaseLength { micros })
+        } else {
+            None
         }
-        Some(LeaseLength { micros })
     }
 
     pub fn micros(self) -> u32
@@ -92,10 +94,11 @@ impl Drift {
     pub fn new(thousandths: u16) -> Option<Drift>
         ensures { λ r. ⌜ Checked (λ d. d .thousandths) (leb thousandths 999) thousandths r ⌝ }
     {
-        if thousandths > 999 {
-            return None;
+        if thousandths <= 999 {
+            Some(Drift { thousandths })
+        } else {
+            None
         }
-        Some(Drift { thousandths })
     }
 
     pub fn thousandths(self) -> u16
@@ -108,6 +111,6 @@ impl Drift {
     pub fn keeps(self, x: u64, y: u64) -> bool
         ensures { λ r. ⌜ r ≡ keepsPair (self .thousandths) x y ⌝ }
     {
-        (1000 - self.thousandths) as u128 * y as u128 <= 1000 * x as u128
+        1000 * x as u128 >= (1000 - self.thousandths) as u128 * y as u128
     }
 }

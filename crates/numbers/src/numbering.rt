@@ -46,7 +46,8 @@ impl InputNumber {
         ensures is { λ r. ⌜ r ≡ self .number ⌝ }
         ensures inside { λ r. ⌜ r < 8 ⌝ }
     {
-        self.number
+        let InputNumber { number } = self;
+        number
     }
 }
 
@@ -65,7 +66,8 @@ impl OutputNumber {
         ensures is { λ r. ⌜ r ≡ self .number ⌝ }
         ensures inside { λ r. ⌜ r < 8 ⌝ }
     {
-        self.number
+        let OutputNumber { number } = self;
+        number
     }
 }
 
@@ -84,7 +86,8 @@ impl ObjectNumber {
         ensures is { λ r. ⌜ r ≡ self .number ⌝ }
         ensures inside { λ r. ⌜ r < 16 ⌝ }
     {
-        self.number
+        let ObjectNumber { number } = self;
+        number
     }
 }
 
@@ -103,6 +106,7 @@ impl ServerCount {
         ensures is { λ r. ⌜ r ≡ self .count ⌝ }
         ensures inside { λ r. ⌜ r ≤ 8 ⌝ }
     {
-        self.count
+        let ServerCount { count } = self;
+        count
     }
 }

@@ -1,8 +1,5 @@
 ghost use mathlib.Core.Path.{_≡_};
-ghost use Prim.Native.Nat.{_^_, _≤_};
-ghost use lib.Dec.{leb};
-ghost use Rattle.numbers.specs.Numbers.{live, longer, leaseEnd, keepsPair};
-ghost use Rattle.numbers.specs.Checked.{Checked};
+ghost use Rattle.numbers.specs.Numbers.{live, longer};
 
 // Whole microseconds on the clock of one server.
 #[derive(Clone, Copy, Debug, PartialEq, Eq)]

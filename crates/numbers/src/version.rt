@@ -23,10 +23,8 @@ impl Version {
     pub fn after(highest: u16, operation: u16) -> Option<Version>
         ensures { λ r. ⌜ r ≡ nextVersion highest operation ⌝ }
     {
-        if highest == 65_535 {
-            return None;
-        }
-        Some(Version::new(highest + 1, operation))
+        let clock = highest.checked_add(1)?;
+        Some(Version::new(clock, operation))
     }
 
     pub fn clock(self) -> u16

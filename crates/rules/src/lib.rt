@@ -5,6 +5,8 @@ mod log;
 mod message;
 mod pairs;
 mod parts;
+#[cfg(test)]
+mod tests;
 
 pub use delivery::Delivery;
 pub use delivery::DeliveryDebug;

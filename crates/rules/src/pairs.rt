@@ -1,5 +1,6 @@
 ghost use mathlib.Core.Path.{_≡_};
 ghost use mathlib.Core.List.{[], _∷_};
+ghost use Prim.Native.Nat.{_≤_};
 ghost use lib.ListN.{length};
 ghost use Rattle.rules.specs.Lists.{listOf, pairAt, pairs};
 use numbers::Version;
@@ -46,21 +47,29 @@ impl Pairs {
         Pairs { count: 1, items }
     }
 
-    // How many pairs there are to read: no more than there is room for, whatever the count says.
+    // The pairs to read: no more than there is room for, whatever the count says.
+    fn as_slice(&self) -> &[Pair]
+        ensures is { λ r. ⌜ now r ≡ listOf (now (self .entry)) ⌝ }
+        ensures short { λ r. ⌜ length (now r) ≤ 8 ⌝ }
+    {
+        if self.count < 8 {
+            &self.items[0..self.count as usize]
+        } else {
+            &self.items
+        }
+    }
+
+    // How many pairs there are to read.
     pub fn len(self) -> u8
         ensures { λ r. ⌜ r ≡ length (listOf self) ⌝ }
     {
-        if self.count < 8 { self.count } else { 8 }
+        self.as_slice().len() as u8
     }
 
     // The pair at a place from 0 on.
     pub fn get(self, place: u8) -> Option<Pair>
         ensures { λ r. ⌜ r ≡ pairAt place self ⌝ }
     {
-        if place < self.len() {
-            Some(self.items[place as usize])
-        } else {
-            None
-        }
+        self.as_slice().get(place as usize).copied()
     }
 }
