@@ -117,7 +117,7 @@ fn drifts_keep_clocks_together() -> Result<(), Fail> {
 
 #[test]
 fn numbers_at_the_ends_of_their_ranges() -> Result<(), Fail> {
-    for time in [Time::ZERO, Time::LAST] {
+    for time in [Time::ZERO, Time(1 << 40)] {
         check_eq(Moment::new(time).ok_or(time)?.time(), time)?;
     }
     check(Moment::new(Time((1 << 40) + 1)).is_none())?;
