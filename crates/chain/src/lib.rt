@@ -1,5 +1,7 @@
 // The invalidations that wait at one input server, in one chain for each output server. The chains
 // share a fixed number of records.
+#![tactic(auto)]
+
 mod chains;
 mod queued;
 mod record;

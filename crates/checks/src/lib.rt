@@ -1,4 +1,6 @@
 // The tests of a field's calls, on plain values: which refusal a call meets first.
+#![tactic(auto)]
+
 mod advancing;
 mod beginning;
 mod delivering;

@@ -1,4 +1,6 @@
 // The field: opening, advancing, beginning, delivering.
+#![tactic(auto)]
+
 mod advancing;
 mod beginning;
 mod calls;

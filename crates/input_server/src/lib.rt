@@ -1,4 +1,6 @@
 // Input servers: they take writes, keep the newest version of each object, and grant leases.
+#![tactic(auto)]
+
 mod acknowledging;
 mod queueing;
 mod renewing;

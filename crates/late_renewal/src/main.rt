@@ -1,5 +1,7 @@
 // One output server that renews from one input server, is invalidated, misses an invalidation and
 // renews late: each step on one line.
+#![tactic(auto)]
+
 mod stage;
 mod words;
 

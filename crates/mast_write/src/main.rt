@@ -1,6 +1,8 @@
 // One write of a mast box, with no field around it: three input servers by majority, two output
 // servers by read-one write-all. What the boxes send each other is written down here; a box would
 // take it from its radio.
+#![tactic(auto)]
+
 mod site;
 mod stop;
 mod walk;

@@ -1,5 +1,7 @@
 // The numbers of the subject, each a type of its own: versions, epochs and times, which are never
 // mixed, and numbers that were checked once and carry their range.
+#![tactic(auto)]
+
 mod epoch;
 mod moment;
 mod numbering;

@@ -1,4 +1,6 @@
 // Operations: a read, and a write whose states are types.
+#![tactic(auto)]
+
 mod alone;
 mod asking;
 mod asks;

@@ -1,4 +1,6 @@
 // Operations by example: a write walked to its end, reads, and what is refused in which order.
+#![tactic(auto)]
+
 #[cfg(test)]
 mod endings;
 #[cfg(test)]

@@ -1,4 +1,6 @@
 // Output servers: they answer reads from copies of their own, under leases.
+#![tactic(auto)]
+
 mod link;
 mod reading;
 mod renewal;

@@ -1,4 +1,6 @@
 // The messages and records of the subject, and the rules of the whole field as definitions (specs/).
+#![tactic(auto)]
+
 mod delivery;
 mod kept;
 mod log;

@@ -1,5 +1,7 @@
 // The servers of a field: eight input servers as named fields, one of which is picked by number in
 // one place, and a table of output servers.
+#![tactic(auto)]
+
 mod input_events;
 mod inputs;
 mod output_events;

@@ -1,5 +1,7 @@
 // A survey of a site before its servers are placed: for each layout it says which losses of
 // servers reads and writes outlast, and how few servers each of them takes.
+#![tactic(auto)]
+
 mod losses;
 #[cfg(test)]
 mod tests;
@@ -11,7 +13,7 @@ use std::io;
 use text::Servers;
 
 // Why a survey stops before its end.
-#[derive(Drop)]
+#[derive(Debug, Drop)]
 enum Stop {
     Refused(Refusal),
     Output(io::Error),

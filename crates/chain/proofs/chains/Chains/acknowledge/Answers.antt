@@ -32,4 +32,4 @@ pub returns : goal.returns
 returns c =
     let some : 0 < c.find-place.result.here = omega arith in
     unlinked_waiting c.args.self.now c.args.output _ _ c.find-place.ensures some c.record-record.result c.record-record.ensures.is
-    c.args.version _ _ c.link.ensures.rows c.link.ensures.tops (leb-true _ _ (sym c.if-not-is-covered.ensures))
+    c.args.version _ _ c.link.ensures.rows c.link.ensures.tops (leb-true _ _ (sym c.if-not-is_covered.ensures))

@@ -18,7 +18,7 @@ loop-here-preserved c =
     let d : drop l.count w ≡ c.pair.result ∷ pairs_along (line rs c.record-record.result.next) =
     sym i.3 ∙ ap pairs_along c.record-record.ensures.rest
     ∙ ap (λ q. q ∷ pairs_along (line rs c.record-record.result.next)) p in
-    let h : l.count < shown = ltb-true _ _ (sym c.if-has-room.ensures) in
+    let h : l.count < shown = ltb-true _ _ (sym c.if-has_room.ensures) in
     (c.record-record.ensures.on, omega arith, shows_more w l i.2 c.pair.result _ d, rest_more w l i.2 c.pair.result _ d)
 
 pub returns-after-loop-here : goal.returns-after-loop-here
