@@ -5,8 +5,8 @@ use Rattle.field.specs.Heard.{Heard, heard_at, Accepts}
 use Rattle.field.proofs.Places.{place_read, place_stored}
 use Rattle.field.proofs.hearing.hear.Goals as goal
 
-pub hear-on-after-requires : goal.hear-on-after-requires
-hear-on-after-requires g c =
+pub hear_on-after-requires : goal.hear_on-after-requires
+hear_on-after-requires g c =
     subst (Accepts (g.I.QuorumSystem.meaning c.args.inputs.now) (g.O.QuorumSystem.meaning c.args.outputs.now) c.args.message.now)
     (sym (ap operation_of c.replace-before.ensures.value ∙ place_read c.args.table.now c.args.operation _ c.requires.begun.0 c.requires.begun.1))
     c.requires.accepts
@@ -16,9 +16,9 @@ returns g c =
     let i = g.I.QuorumSystem.meaning c.args.inputs.now in
     let o = g.O.QuorumSystem.meaning c.args.outputs.now in
     let was = ap operation_of c.replace-before.ensures.value ∙ place_read c.args.table.now c.args.operation _ c.requires.begun.0 c.requires.begun.1 in
-    let heard = c.hear-on-after.ensures ∙ ap (heard_at i o c.args.message.now) was in
+    let heard = c.hear_on-after.ensures ∙ ap (heard_at i o c.args.message.now) was in
     record {
-      table = place_stored c.args.table.now c.args.operation _ c.hear-on-after.result.0
+      table = place_stored c.args.table.now c.args.operation _ c.hear_on-after.result.0
           ∙ ap (λ (h : Heard). set (map operation_of c.args.table.now) (c.args.operation - 1) h.place) heard;
       says = ap (λ (h : Heard). h.said) heard;
     }

@@ -7,8 +7,8 @@ loop-place-init c = hears-none c.args.list c.args.link.now
 
 pub loop-place-preserved : goal.loop-place-preserved
 loop-place-preserved c =
-    hears-more c.args.list c.loop-place.place c.args.link.now c.loop-place.link c.hear-at.new.link
-    (omega (arith, c.loop-place-test.true, c.len-place-end.ensures)) c.loop-place.invariant c.hear-at.ensures
+    hears-more c.args.list c.loop-place.place c.args.link.now c.loop-place.link c.hear_at.new.link
+    (omega (arith, c.loop-place-test.true, c.len-place-end.ensures)) c.loop-place.invariant c.hear_at.ensures
 
 pub returns : goal.returns
 returns c =

@@ -5,5 +5,5 @@ use Rattle.servers.proofs.starting.start_clock.Goals as goal
 
 pub returns-else-place-clocks : goal.returns-else-place-clocks
 returns-else-place-clocks c =
-    c.shown-as-else-place-clocks.ensures
+    c.shown_as-else-place-clocks.ensures
     ∙ ap shown_as (sym (get_or_past c.args.clocks.now c.args.place (record { 0 = 0 }) c.if-place-clocks.false))

@@ -4,12 +4,12 @@ use Rattle.survey.proofs.losses.smallest_set.Goals as goal
 
 pub returns : goal.returns
 returns g c =
-    let counted = c.in-ok-count.ensures in (
+    let counted = c.in_ok-count.ensures in (
       counted.0,
       full_smallest
           c.args.family
           (g.Q.QuorumSystem.meaning c.args.system.now)
-          c.in-ok-count.count
+          c.in_ok-count.count
           _
           (g.met.Q.QuorumSystem.lawful c.args.system.now)
           counted.1

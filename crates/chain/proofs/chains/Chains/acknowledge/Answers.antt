@@ -8,11 +8,11 @@ pub returns-then-place-eq-END : goal.returns-then-place-eq-END
 returns-then-place-eq-END c =
     nothing_freed c.args.self.now c.args.output _ _ c.find-place.ensures c.if-place-eq-END.true c.args.version
 
-pub returns-then-not-is-covered : goal.returns-then-not-is-covered
-returns-then-not-is-covered c =
+pub returns-then-not-is_covered : goal.returns-then-not-is_covered
+returns-then-not-is_covered c =
     let some : 0 < c.find-place.result.here = omega arith in
     above_stays c.args.self.now c.args.output _ _ c.find-place.ensures some c.record-record.result c.record-record.ensures.is
-    c.args.version (leb-false _ _ (sym c.if-not-is-covered.ensures))
+    c.args.version (leb-false _ _ (sym c.if-not-is_covered.ensures))
 
 pub link-requires : goal.link-requires
 link-requires c = before_fits c.args.self.now c.args.output _ _ c.find-place.ensures
@@ -20,13 +20,13 @@ link-requires c = before_fits c.args.self.now c.args.output _ _ c.find-place.ens
 pub bounds-self-place : goal.bounds-self-place
 bounds-self-place c = omega (arith, (on_more _ _ c.find-place.ensures.on (omega arith)).2)
 
-pub invariant-of-self : goal.invariant-of-self
-invariant-of-self c =
-    let some : 0 < c.find-place.result.here = omega arith in (
-      unlinked_sound c.args.self.now c.args.output _ _ c.find-place.ensures some c.record-record.result c.record-record.ensures.is
-          c.args.version _ _ c.link.ensures.rows c.link.ensures.tops,
-      tt,
-    )
+pub invariant_of-self : goal.invariant_of-self
+invariant_of-self c =
+    let some : 0 < c.find-place.result.here = omega arith in record {
+      sound =
+          unlinked_sound c.args.self.now c.args.output _ _ c.find-place.ensures some c.record-record.result c.record-record.ensures.is
+          c.args.version _ _ c.link.ensures.rows c.link.ensures.tops;
+    }
 
 pub returns : goal.returns
 returns c =

@@ -12,12 +12,12 @@ bounds-self-spare-2 c = omega (arith, free_within c.args.self.now c.args.output 
 pub link-requires : goal.link-requires
 link-requires c = simp length-set (before_fits c.args.self.now c.args.output _ _ c.requires.found)
 
-pub invariant-of-self : goal.invariant-of-self
-invariant-of-self c = (
-  appended_sound c.args.self.now c.args.output c.args.pair _ c.requires.found c.requires.behind c.requires.spare
-      _ _ c.link.ensures.rows c.link.ensures.tops,
-  tt,
-)
+pub invariant_of-self : goal.invariant_of-self
+invariant_of-self c = record {
+  sound =
+      appended_sound c.args.self.now c.args.output c.args.pair _ c.requires.found c.requires.behind c.requires.spare
+      _ _ c.link.ensures.rows c.link.ensures.tops;
+}
 
 pub returns : goal.returns
 returns c =

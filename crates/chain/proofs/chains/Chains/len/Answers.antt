@@ -4,8 +4,8 @@ use Rattle.chain.specs.Records.{Entry, line}
 use Rattle.chain.proofs.Lines.{length_line, on_more, none_left}
 use Rattle.chain.proofs.chains.Chains.len.Goals as goal
 
-pub overflow-add-waiting : goal.overflow-add-waiting
-overflow-add-waiting c =
+pub overflow_add-waiting : goal.overflow_add-waiting
+overflow_add-waiting c =
     let m = on_more _ _ c.loop-here.invariant.0 (omega arith) in
     omega (arith, ap length m.1, length_line c.args.self.now.records c.head-here.result, c.loop-here.invariant.1)
 

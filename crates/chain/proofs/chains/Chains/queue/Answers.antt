@@ -7,8 +7,8 @@ use Rattle.chain.proofs.chains.Chains.queue.Goals as goal
 pub bounds-self-place : goal.bounds-self-place
 bounds-self-place c = omega (arith, (on_more _ _ c.find-place.ensures.on (omega arith)).2)
 
-pub invariant-of-self : goal.invariant-of-self
-invariant-of-self c = (renewed_sound c.args.self.now c.args.output c.args.pair _ c.find-place.ensures (omega arith), tt)
+pub invariant_of-self : goal.invariant_of-self
+invariant_of-self c = record { sound = renewed_sound c.args.self.now c.args.output c.args.pair _ c.find-place.ensures (omega arith) }
 
 pub returns-then-place-ne-END : goal.returns-then-place-ne-END
 returns-then-place-ne-END c =

@@ -6,21 +6,21 @@ use Rattle.field.proofs.Fields.{same_field}
 use Rattle.field.proofs.Sounds.{sound_after}
 use Rattle.field.proofs.field.Field.begin_write.Goals as goal
 
-pub invariant-of-self : goal.invariant-of-self
+pub invariant_of-self : goal.invariant_of-self
 unfolding outcome_of
-invariant-of-self g c = (
+invariant_of-self g c = (
   sound_after (g.I.QuorumSystem.meaning c.args.inputs.now) (g.O.QuorumSystem.meaning c.args.outputs.now) (g.met.I.QuorumSystem.lawful c.args.inputs.now) (g.met.O.QuorumSystem.lawful c.args.outputs.now)
-      (to_write c.args.object c.args.value) c.args.self.now.interior c.begin-write.new.self c.args.log.now c.begin-write.new.log c.args.table.now c.begin-write.new.table
-      (beginning_says c.begin-write.result) c.args.self.now.sound c.begin-write.ensures.does,
+      (to_write c.args.object c.args.value) c.args.self.now.interior c.begin_write.new.self c.args.log.now c.begin_write.new.log c.args.table.now c.begin_write.new.table
+      (beginning_says c.begin_write.result) c.args.self.now.sound c.begin_write.ensures.does,
   tt,
 )
 
 pub returns : goal.returns
 unfolding outcome_of
 returns g c = record {
-  does = c.begin-write.ensures.does;
-  same = λ e. let s = c.begin-write.ensures.same e in (same_field _ _ s.0, s.1, s.2);
+  does = c.begin_write.ensures.does;
+  same = λ e. let s = c.begin_write.ensures.same e in (same_field _ _ s.0, s.1, s.2);
   guaranteed = guaranteed (g.I.QuorumSystem.meaning c.args.inputs.now) (g.O.QuorumSystem.meaning c.args.outputs.now) (g.met.I.QuorumSystem.lawful c.args.inputs.now) (g.met.O.QuorumSystem.lawful c.args.outputs.now)
-      (to_write c.args.object c.args.value) (state_of c.args.self.now.interior c.args.log.now c.args.table.now) (state_of c.begin-write.new.self c.begin-write.new.log c.begin-write.new.table)
-      (beginning_says c.begin-write.result) c.begin-write.ensures.does;
+      (to_write c.args.object c.args.value) (state_of c.args.self.now.interior c.args.log.now c.args.table.now) (state_of c.begin_write.new.self c.begin_write.new.log c.begin_write.new.table)
+      (beginning_says c.begin_write.result) c.begin_write.ensures.does;
 }

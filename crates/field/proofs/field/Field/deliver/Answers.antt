@@ -6,9 +6,9 @@ use Rattle.field.proofs.Fields.{same_field}
 use Rattle.field.proofs.Sounds.{sound_after}
 use Rattle.field.proofs.field.Field.deliver.Goals as goal
 
-pub invariant-of-self : goal.invariant-of-self
+pub invariant_of-self : goal.invariant_of-self
 unfolding outcome_of
-invariant-of-self g c = (
+invariant_of-self g c = (
   sound_after (g.I.QuorumSystem.meaning c.args.inputs.now) (g.O.QuorumSystem.meaning c.args.outputs.now) (g.met.I.QuorumSystem.lawful c.args.inputs.now) (g.met.O.QuorumSystem.lawful c.args.outputs.now)
       (to_deliver c.args.number) c.args.self.now.interior c.deliver.new.self c.args.log.now c.deliver.new.log c.args.table.now c.deliver.new.table
       (delivery_says c.deliver.result) c.args.self.now.sound c.deliver.ensures.does,

@@ -1,5 +1,5 @@
 use Rattle.std.proofs.Common.{◌≡◌, ℕ, arith}
 use Rattle.field.proofs.field.Field.new.Goals as goal
 
-pub invariant-of-result : goal.invariant-of-result
-invariant-of-result c = (∣ (λ e. absurd (let z : ◌≡◌ {A = ℕ} 0 1 = cc in omega arith)) ∣₁, tt)
+pub invariant_of-result : goal.invariant_of-result
+invariant_of-result c = (∣ (λ e. absurd (let z : ◌≡◌ {A = ℕ} 0 1 = cc in omega arith)) ∣₁, tt)

@@ -7,54 +7,54 @@ use Rattle.field.proofs.Advances.{advance_refuses, advance_counted, advance_past
 use Rattle.field.proofs.Refusing.{not_refused}
 use Rattle.field.proofs.interior.Interior.advance.Goals as goal
 
-pub returns-in-err-check-increments : goal.returns-in-err-check-increments
-returns-in-err-check-increments g c =
-    let p = err_from_is_err_and c.from-residual.result c.from-residual.ensures.1 in
+pub returns-in_err-check_increments : goal.returns-in_err-check_increments
+returns-in_err-check_increments g c =
+    let p = err_from_is_err_and c.from_residual.result c.from_residual.ensures.1 in
     rw (p.1, p.2) (record {
       does = advance_refuses (g.I.QuorumSystem.meaning c.args.inputs.now) (g.O.QuorumSystem.meaning c.args.outputs.now) c.args.increments.now
-          (state_of c.args.self.now c.args.log.now c.args.table.now) _ c.in-err-check-increments.ensures;
+          (state_of c.args.self.now c.args.log.now c.args.table.now) _ c.in_err-check_increments.ensures;
       same = λ _. refl;
     })
 
-pub clocks-stay-requires : goal.clocks-stay-requires
-clocks-stay-requires g c =
+pub clocks_stay-requires : goal.clocks_stay-requires
+clocks_stay-requires g c =
     omega (
       arith,
       advance_counted (g.I.QuorumSystem.meaning c.args.inputs.now) (g.O.QuorumSystem.meaning c.args.outputs.now) c.args.increments.now
-          (state_of c.args.self.now c.args.log.now c.args.table.now) c.in-ok-check-increments.ensures,
+          (state_of c.args.self.now c.args.log.now c.args.table.now) c.in_ok-check_increments.ensures,
     )
 
-pub returns-then-not-clocks-stay : goal.returns-then-not-clocks-stay
-returns-then-not-clocks-stay g c = record {
+pub returns-then-not-clocks_stay : goal.returns-then-not-clocks_stay
+returns-then-not-clocks_stay g c = record {
   does = advance_past (g.I.QuorumSystem.meaning c.args.inputs.now) (g.O.QuorumSystem.meaning c.args.outputs.now) c.args.increments.now
-      (state_of c.args.self.now c.args.log.now c.args.table.now) c.in-ok-check-increments.ensures
-      (sym c.if-not-clocks-stay.true ∙ c.clocks-stay.ensures c.args.log.now c.args.table.now);
+      (state_of c.args.self.now c.args.log.now c.args.table.now) c.in_ok-check_increments.ensures
+      (sym c.if-not-clocks_stay.true ∙ c.clocks_stay.ensures c.args.log.now c.args.table.now);
   same = λ _. refl;
 }
 
-pub returns-then-not-keeps-drift : goal.returns-then-not-keeps-drift
-returns-then-not-keeps-drift g c = record {
+pub returns-then-not-keeps_drift : goal.returns-then-not-keeps_drift
+returns-then-not-keeps_drift g c = record {
   does = advance_drifts (g.I.QuorumSystem.meaning c.args.inputs.now) (g.O.QuorumSystem.meaning c.args.outputs.now) c.args.increments.now
-      (state_of c.args.self.now c.args.log.now c.args.table.now) c.in-ok-check-increments.ensures
-      (sym c.if-not-clocks-stay.false ∙ c.clocks-stay.ensures c.args.log.now c.args.table.now)
-      (sym c.if-not-keeps-drift.true ∙ c.keeps-drift.ensures);
+      (state_of c.args.self.now c.args.log.now c.args.table.now) c.in_ok-check_increments.ensures
+      (sym c.if-not-clocks_stay.false ∙ c.clocks_stay.ensures c.args.log.now c.args.table.now)
+      (sym c.if-not-keeps_drift.true ∙ c.keeps_drift.ensures);
   same = λ _. refl;
 }
 
-pub tick-inputs-requires : goal.tick-inputs-requires
-tick-inputs-requires g c = record {
+pub tick_inputs-requires : goal.tick_inputs-requires
+tick_inputs-requires g c = record {
   long = omega (
     arith,
     advance_counted (g.I.QuorumSystem.meaning c.args.inputs.now) (g.O.QuorumSystem.meaning c.args.outputs.now) c.args.increments.now
-        (state_of c.args.self.now c.args.log.now c.args.table.now) c.in-ok-check-increments.ensures,
+        (state_of c.args.self.now c.args.log.now c.args.table.now) c.in_ok-check_increments.ensures,
   );
   stay = λ log t. (each_stays c.args.increments.now c.args.self.now.input_count.count c.args.self.now.output_count.count (state_of c.args.self.now log t)
-      (sym c.if-not-clocks-stay.false ∙ c.clocks-stay.ensures log t)).0;
+      (sym c.if-not-clocks_stay.false ∙ c.clocks_stay.ensures log t)).0;
 }
 
-pub tick-outputs-requires : goal.tick-outputs-requires
-tick-outputs-requires g c =
-    let kept = counts_kept c.args.increments.now c.args.self.now.input_count.count (state_of c.args.self.now [] []) _ (c.tick-inputs.ensures [] []) in
+pub tick_outputs-requires : goal.tick_outputs-requires
+tick_outputs-requires g c =
+    let kept = counts_kept c.args.increments.now c.args.self.now.input_count.count (state_of c.args.self.now [] []) _ (c.tick_inputs.ensures [] []) in
     let n = ap (λ (f : Frame). f.counts.n) kept in
     let m = ap (λ (f : Frame). f.counts.m) kept in
     record {
@@ -63,21 +63,21 @@ tick-outputs-requires g c =
         n,
         m,
         advance_counted (g.I.QuorumSystem.meaning c.args.inputs.now) (g.O.QuorumSystem.meaning c.args.outputs.now) c.args.increments.now
-            (state_of c.args.self.now c.args.log.now c.args.table.now) c.in-ok-check-increments.ensures,
+            (state_of c.args.self.now c.args.log.now c.args.table.now) c.in_ok-check_increments.ensures,
       );
-      stay = λ log t. outputs_still_stay c.args.increments.now c.args.self.now.input_count.count c.tick-inputs.new.self.output_count.count
-          (state_of c.args.self.now log t) _ (c.tick-inputs.ensures log t)
+      stay = λ log t. outputs_still_stay c.args.increments.now c.args.self.now.input_count.count c.tick_inputs.new.self.output_count.count
+          (state_of c.args.self.now log t) _ (c.tick_inputs.ensures log t)
           (ap (λ (k : ℕ). outputs_stay c.args.increments.now k (state_of c.args.self.now log t)) m
           ∙ (each_stays c.args.increments.now c.args.self.now.input_count.count c.args.self.now.output_count.count (state_of c.args.self.now log t)
-          (sym c.if-not-clocks-stay.false ∙ c.clocks-stay.ensures log t)).1);
+          (sym c.if-not-clocks_stay.false ∙ c.clocks_stay.ensures log t)).1);
     }
 
 pub returns : goal.returns
 returns g c = record {
   does = advance_done (g.I.QuorumSystem.meaning c.args.inputs.now) (g.O.QuorumSystem.meaning c.args.outputs.now) c.args.increments.now
-      (state_of c.args.self.now c.args.log.now c.args.table.now) c.in-ok-check-increments.ensures _ _
-      (sym c.if-not-clocks-stay.false ∙ c.clocks-stay.ensures c.args.log.now c.args.table.now)
-      (sym c.if-not-keeps-drift.false ∙ c.keeps-drift.ensures)
-      (c.tick-inputs.ensures c.args.log.now c.args.table.now) (c.tick-outputs.ensures c.args.log.now c.args.table.now);
+      (state_of c.args.self.now c.args.log.now c.args.table.now) c.in_ok-check_increments.ensures _ _
+      (sym c.if-not-clocks_stay.false ∙ c.clocks_stay.ensures c.args.log.now c.args.table.now)
+      (sym c.if-not-keeps_drift.false ∙ c.keeps_drift.ensures)
+      (c.tick_inputs.ensures c.args.log.now c.args.table.now) (c.tick_outputs.ensures c.args.log.now c.args.table.now);
   same = not_refused;
 }

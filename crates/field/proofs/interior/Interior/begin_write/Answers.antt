@@ -7,37 +7,37 @@ use Rattle.field.proofs.Begins.{write_refuses, beginnable, write_begun}
 use Rattle.field.proofs.Refusing.{not_refused}
 use Rattle.field.proofs.interior.Interior.begin_write.Goals as goal
 
-pub returns-in-err-check-object : goal.returns-in-err-check-object
-returns-in-err-check-object g c =
-    let p = err_from_is_err_and c.from-residual.result c.from-residual.ensures.1 in
+pub returns-in_err-check_object : goal.returns-in_err-check_object
+returns-in_err-check_object g c =
+    let p = err_from_is_err_and c.from_residual.result c.from_residual.ensures.1 in
     rw (p.1, p.2) (record {
       does = write_refuses (g.I.QuorumSystem.meaning c.args.inputs.now) (g.O.QuorumSystem.meaning c.args.outputs.now) c.args.object c.args.value
-          (state_of c.args.self.now c.args.log.now c.args.table.now) _ c.in-err-check-object.ensures;
+          (state_of c.args.self.now c.args.log.now c.args.table.now) _ c.in_err-check_object.ensures;
       same = λ _. (refl, refl, refl);
     })
 
-pub overflow-add-operation : goal.overflow-add-operation
-overflow-add-operation g c =
+pub overflow_add-operation : goal.overflow_add-operation
+overflow_add-operation g c =
     let p = beginnable (g.I.QuorumSystem.meaning c.args.inputs.now) (g.O.QuorumSystem.meaning c.args.outputs.now) c.args.self.now c.args.log.now c.args.table.now
-    c.args.object c.requires c.in-ok-check-object.ensures in
+    c.args.object c.requires c.in_ok-check_object.ensures in
     omega (arith, p.few)
 
-pub overflow-cast-object : goal.overflow-cast-object
-overflow-cast-object g c =
+pub overflow_cast-object : goal.overflow_cast-object
+overflow_cast-object g c =
     let p = beginnable (g.I.QuorumSystem.meaning c.args.inputs.now) (g.O.QuorumSystem.meaning c.args.outputs.now) c.args.self.now c.args.log.now c.args.table.now
-    c.args.object c.requires c.in-ok-check-object.ensures in
+    c.args.object c.requires c.in_ok-check_object.ensures in
     omega (arith, p.object)
 
 pub enter-requires : goal.enter-requires
 enter-requires g c =
     let p = beginnable (g.I.QuorumSystem.meaning c.args.inputs.now) (g.O.QuorumSystem.meaning c.args.outputs.now) c.args.self.now c.args.log.now c.args.table.now
-    c.args.object c.requires c.in-ok-check-object.ensures in
+    c.args.object c.requires c.in_ok-check_object.ensures in
     (p.free, p.few)
 
-pub log-all-requires : goal.log-all-requires
-log-all-requires g c =
+pub log_all-requires : goal.log_all-requires
+log_all-requires g c =
     let p = beginnable (g.I.QuorumSystem.meaning c.args.inputs.now) (g.O.QuorumSystem.meaning c.args.outputs.now) c.args.self.now c.args.log.now c.args.table.now
-    c.args.object c.requires c.in-ok-check-object.ensures in
+    c.args.object c.requires c.in_ok-check_object.ensures in
     omega (arith, p.room, ap (λ (s : State). s.made) (c.enter.ensures c.args.log.now))
 
 pub returns : goal.returns
@@ -45,6 +45,6 @@ returns g c = record {
   does = write_begun (g.I.QuorumSystem.meaning c.args.inputs.now) (g.O.QuorumSystem.meaning c.args.outputs.now) c.args.object c.args.value
       c.enter.new.self.input_count.count (state_of c.args.self.now c.args.log.now c.args.table.now)
       (state_of c.enter.new.self c.args.log.now c.enter.new.table) _ _
-      c.in-ok-check-object.ensures (c.enter.ensures c.args.log.now) (ap asking c.new-write.ensures) refl (c.log-all.ensures c.enter.new.table);
+      c.in_ok-check_object.ensures (c.enter.ensures c.args.log.now) (ap asking c.new-write.ensures) refl (c.log_all.ensures c.enter.new.table);
   same = not_refused;
 }

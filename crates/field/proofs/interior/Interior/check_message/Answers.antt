@@ -5,9 +5,9 @@ use Rattle.field.proofs.interior.Interior.check_message.Goals as goal
 
 pub returns : goal.returns
 returns g c =
-    c.check-delivery.ensures
-    ∙ ap (λ (b : Bool). delivering_refusal c.args.self.now.is_open b c.args.number c.args.self.now.made c.has-room-room.result)
-    (c.is-as-opened-as-opened.ensures
+    c.check_delivery.ensures
+    ∙ ap (λ (b : Bool). delivering_refusal c.args.self.now.is_open b c.args.number c.args.self.now.made c.has_room-room.result)
+    (c.is_as_opened-as_opened.ensures
     ∙ lent_as (g.I.QuorumSystem.meaning c.args.inputs.now) (g.O.QuorumSystem.meaning c.args.outputs.now) c.args.self.now c.args.log.now c.args.table.now _ _
     c.count.ensures c.count-2.ensures)
-    ∙ ap (delivering_refusal c.args.self.now.is_open _ c.args.number c.args.self.now.made) c.has-room-room.ensures
+    ∙ ap (delivering_refusal c.args.self.now.is_open _ c.args.number c.args.self.now.made) c.has_room-room.ensures

@@ -5,8 +5,8 @@ use Rattle.field.specs.Heard.{Accepts}
 use Rattle.field.proofs.Places.{place_read, clock_leaves}
 use Rattle.field.proofs.interior.Interior.hear_clock.Goals as goal
 
-pub ask-place-after-requires : goal.ask-place-after-requires
-ask-place-after-requires g c = record {
+pub ask_place-after-requires : goal.ask_place-after-requires
+ask_place-after-requires g c = record {
   room = c.requires.room;
   accepts = subst (Accepts (g.I.QuorumSystem.meaning c.args.inputs.now) (g.O.QuorumSystem.meaning c.args.outputs.now) (ClockAnswer c.args.input c.args.operation c.args.clock))
       (sym (ap operation_of c.replace-before.ensures.value ∙ place_read c.args.table.now c.args.operation _ c.requires.begun.0 c.requires.begun.1))
@@ -16,6 +16,6 @@ ask-place-after-requires g c = record {
 pub returns : goal.returns
 returns g c =
     clock_leaves (g.I.QuorumSystem.meaning c.args.inputs.now) (g.O.QuorumSystem.meaning c.args.outputs.now) c.args.input c.args.operation c.args.clock
-    c.args.self.now c.ask-place-after.new.self c.args.log.now c.ask-place-after.new.log c.args.table.now _ c.replace-before.result c.ask-place-after.result
+    c.args.self.now c.ask_place-after.new.self c.args.log.now c.ask_place-after.new.log c.args.table.now _ c.replace-before.result c.ask_place-after.result
     (ap operation_of c.replace-before.ensures.value ∙ place_read c.args.table.now c.args.operation _ c.requires.begun.0 c.requires.begun.1)
-    c.ask-place-after.ensures.place c.ask-place-after.ensures.sends
+    c.ask_place-after.ensures.place c.ask_place-after.ensures.sends

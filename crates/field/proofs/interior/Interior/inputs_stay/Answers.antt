@@ -12,7 +12,7 @@ pub loop-input-preserved : goal.loop-input-preserved
 loop-input-preserved c = λ log t.
     let s = state_of c.args.self.now log t in
     let i = c.loop-input.input in
-    c.and-input-stays-stay.ensures log t
+    c.and_input_stays-stay.ensures log t
     ∙ ap (λ (b : Bool). b && leb ((input_at s i).clock.0 + get_or c.args.increments.now i 0) last_time) (c.loop-input.invariant log t)
     ∙ sym (ap (λ (n : ℕ). inputs_stay c.args.increments.now n s) (add-one i))
 

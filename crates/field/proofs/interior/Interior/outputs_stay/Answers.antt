@@ -12,7 +12,7 @@ pub loop-output-preserved : goal.loop-output-preserved
 loop-output-preserved c = λ log t.
     let s = state_of c.args.self.now log t in
     let j = c.loop-output.output in
-    c.and-output-stays-stay.ensures log t
+    c.and_output_stays-stay.ensures log t
     ∙ ap (λ (b : Bool). b && leb ((output_at s j).clock.0 + get_or c.args.increments.now (c.get-first.result + j) 0) last_time) (c.loop-output.invariant log t)
     ∙ ap (λ (n : ℕ). outputs_stay c.args.increments.now j s && leb ((output_at s j).clock.0 + get_or c.args.increments.now (n + j) 0) last_time) c.get-first.ensures.is
     ∙ sym (ap (λ (n : ℕ). outputs_stay c.args.increments.now n s) (add-one j))

@@ -8,5 +8,5 @@ use Rattle.field.proofs.interior.Interior.reach_input.Goals as goal
 pub returns : goal.returns
 returns g c = λ t.
     reaches (λ (x : ℕ). g.E.InputEvent.happens c.args.event x (get_or (inputs_of c.args.self.now.inputs) x no_input) c.args.self.now.made c.args.log.now)
-    c.args.input c.input-number.result.number c.in-Ok.made _ _ (state_of c.args.self.now c.args.log.now t)
-    c.input-number.ensures c.in-Ok.ensures.says c.change.ensures.servers c.change.ensures.log
+    c.args.input c.input_number.result.number c.in-Ok.made _ _ (state_of c.args.self.now c.args.log.now t)
+    c.input_number.ensures c.in-Ok.ensures.says c.change.ensures.servers c.change.ensures.log

@@ -6,8 +6,8 @@ use Rattle.field.specs.Ranging.{place_of}
 use Rattle.field.proofs.Delivers.{numbers_fit_lem, clock_reached, named_reached, pair_reached, named_delivered, pair_delivered, served}
 use Rattle.field.proofs.interior.Interior.receive.Goals as goal
 
-pub hear-clock-requires : goal.hear-clock-requires
-hear-clock-requires g c =
+pub hear_clock-requires : goal.hear_clock-requires
+hear_clock-requires g c =
     let r = clock_reached (g.I.QuorumSystem.meaning c.args.inputs.now) (g.O.QuorumSystem.meaning c.args.outputs.now) c.args.self.now c.args.log.now
     c.args.table.now c.args.number c.requires c.in-ClockAnswer.input c.in-ClockAnswer.operation c.in-ClockAnswer.clock c.in-ClockAnswer.is in
     record { room = c.requires.ready.room; begun = r.begun; accepts = r.accepts }
@@ -38,7 +38,7 @@ serve-requires g c = record {
   number = (c.requires.low, c.requires.high);
   fits = numbers_fit_lem (g.I.QuorumSystem.meaning c.args.inputs.now) (g.O.QuorumSystem.meaning c.args.outputs.now) c.args.self.now c.args.log.now
       c.args.table.now c.args.number c.requires;
-  kind = served (numbered c.args.log.now c.args.number) c.in-default.not-ClockAnswer c.in-default.not-WriteAnswer c.in-default.not-ReadAnswer c.in-default.not-ReadRequest;
+  kind = served (numbered c.args.log.now c.args.number) c.in_default.not-ClockAnswer c.in_default.not-WriteAnswer c.in_default.not-ReadAnswer c.in_default.not-ReadRequest;
 }
 
 pub returns-in-WriteAnswer : goal.returns-in-WriteAnswer

@@ -9,11 +9,11 @@ pub returns : goal.returns
 returns c = record {
   frame = λ k. record {
     is_open = true;
-    counts = record { n = c.server-count-self.ensures k; m = c.server-count-self-2.ensures k; k = c.args.opening.objects };
-    lease = c.lease-length-self.ensures k;
-    drift = c.drift-of-self.ensures k;
-    log_length = c.args.log-len;
-    table_length = c.args.table-len;
+    counts = record { n = c.server_count-self.ensures k; m = c.server_count-self-2.ensures k; k = c.args.opening.objects };
+    lease = c.lease_length-self.ensures k;
+    drift = c.drift_of-self.ensures k;
+    log_length = c.args.log_len;
+    table_length = c.args.table_len;
   };
   counters = (refl, refl);
   inputs = c.new-self.ensures ∙ ap (λ (k : ℕ). first_inputs (take k c.args.clocks.now)) (sub-zero c.args.n);

@@ -6,18 +6,18 @@ use Rattle.field.specs.Views.{frame_of, state_of}
 use Rattle.field.proofs.Received.{write_taken, write_received}
 use Rattle.field.proofs.interior.Interior.take_write_request.Goals as goal
 
-pub object-number-requires : goal.object-number-requires
-object-number-requires c =
+pub object_number-requires : goal.object_number-requires
+object_number-requires c =
     let f = fits_request (frame_of c.args.self.now).counts c.args.operation c.args.input c.args.object c.args.version c.args.value c.requires.fits in
     omega (arith, f.object, c.requires.ready.objects)
 
-pub reach-input-requires : goal.reach-input-requires
-reach-input-requires c =
+pub reach_input-requires : goal.reach_input-requires
+reach_input-requires c =
     let f = fits_request (frame_of c.args.self.now).counts c.args.operation c.args.input c.args.object c.args.version c.args.value c.requires.fits in
     let h = c.args.self.now.output_count.inside in
     record {
       inside = omega (arith, f.receiver, c.args.self.now.input_count.inside);
-      taken = write_taken c.args.input c.args.operation c.object-number.result.number c.args.version c.args.value
+      taken = write_taken c.args.input c.args.operation c.object_number.result.number c.args.version c.args.value
           (state_of c.args.self.now c.args.log.now []) c.requires.ready.room
           (λ j l. c.requires.ready.epochs c.args.input j (omega (arith, f.receiver, c.args.self.now.input_count.inside)) (omega arith));
     }
@@ -28,6 +28,6 @@ returns c = λ i o t.
     let f = fits_request (frame_of c.args.self.now).counts c.args.operation c.args.input c.args.object c.args.version c.args.value c.requires.fits in
     let h = c.args.self.now.output_count.inside in
     subst (λ (b : ℕ). receives i o (WriteRequest c.args.operation c.args.input b c.args.version c.args.value) s
-    ≡ quiet (state_of c.reach-input.new.self c.reach-input.new.log t)) c.object-number.ensures
-    (write_received i o c.args.operation c.args.input c.object-number.result.number c.args.version c.args.value s _ c.requires.ready.room
-    (λ j l. c.requires.ready.epochs c.args.input j (omega (arith, f.receiver, c.args.self.now.input_count.inside)) (omega arith)) (c.reach-input.ensures t))
+    ≡ quiet (state_of c.reach_input.new.self c.reach_input.new.log t)) c.object_number.ensures
+    (write_received i o c.args.operation c.args.input c.object_number.result.number c.args.version c.args.value s _ c.requires.ready.room
+    (λ j l. c.requires.ready.epochs c.args.input j (omega (arith, f.receiver, c.args.self.now.input_count.inside)) (omega arith)) (c.reach_input.ensures t))

@@ -7,8 +7,8 @@ use Rattle.field.proofs.interior.Interior.tick_inputs.Goals as goal
 pub loop-input-init : goal.loop-input-init
 loop-input-init c = λ log t. refl
 
-pub tick-input-requires : goal.tick-input-requires
-tick-input-requires c = record {
+pub tick_input-requires : goal.tick_input-requires
+tick_input-requires c = record {
   inside = omega (arith, c.loop-input-test.true, c.get-input-end.ensures);
   stays = λ log t. input_may_tick c.args.increments.now c.args.self.now.input_count.count c.loop-input.input (state_of c.args.self.now log t) _
       (c.loop-input.invariant log t) (omega (arith, c.loop-input-test.true, c.get-input-end.ensures)) (c.requires.stay log t);
@@ -16,7 +16,7 @@ tick-input-requires c = record {
 
 pub loop-input-preserved : goal.loop-input-preserved
 loop-input-preserved c = λ log t.
-    input_moved c.args.increments.now c.loop-input.input (state_of c.args.self.now log t) _ _ (c.loop-input.invariant log t) (c.tick-input.ensures log t)
+    input_moved c.args.increments.now c.loop-input.input (state_of c.args.self.now log t) _ _ (c.loop-input.invariant log t) (c.tick_input.ensures log t)
 
 pub returns : goal.returns
 returns c = λ log t.

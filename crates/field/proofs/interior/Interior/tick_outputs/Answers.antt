@@ -10,8 +10,8 @@ use Rattle.field.proofs.interior.Interior.tick_outputs.Goals as goal
 pub loop-output-init : goal.loop-output-init
 loop-output-init c = λ log t. refl
 
-pub tick-output-requires : goal.tick-output-requires
-tick-output-requires c = record {
+pub tick_output-requires : goal.tick_output-requires
+tick_output-requires c = record {
   inside = omega (arith, c.loop-output-test.true, c.get-output-end.ensures);
   stays = λ log t.
       subst (λ (n : ℕ). leb ((output_at (state_of c.loop-output.self log t) c.loop-output.output).clock.0 + get_or c.args.increments.now (n + c.loop-output.output) 0) last_time ≡ true)
@@ -23,7 +23,7 @@ tick-output-requires c = record {
 pub loop-output-preserved : goal.loop-output-preserved
 loop-output-preserved c = λ log t.
     output_moved c.args.increments.now c.args.self.now.input_count.count c.loop-output.output (state_of c.args.self.now log t) _ _ (c.loop-output.invariant log t)
-    (c.tick-output.ensures log t
+    (c.tick_output.ensures log t
     ∙ ap (λ (n : ℕ). with_output c.loop-output.output (later_output (get_or c.args.increments.now (n + c.loop-output.output) 0)
     (output_at (state_of c.loop-output.self log t) c.loop-output.output)) (state_of c.loop-output.self log t)) c.get-first.ensures.is)
 

@@ -5,7 +5,7 @@ use Rattle.input_server.specs.Epochs.{have_epochs}
 use Rattle.input_server.proofs.server.InputServer.has_epochs.Goals as goal
 
 pub loop-output-preserved : goal.loop-output-preserved
-loop-output-preserved c = epochs_more c.args.self.now.ledgers c.loop-output.output c.loop-output.has c.and-epoch-of-has.result c.loop-output.invariant c.and-epoch-of-has.ensures
+loop-output-preserved c = epochs_more c.args.self.now.ledgers c.loop-output.output c.loop-output.has c.and_epoch_of-has.result c.loop-output.invariant c.and_epoch_of-has.ensures
 
 pub returns : goal.returns
 returns c =

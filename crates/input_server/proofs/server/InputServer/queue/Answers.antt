@@ -13,7 +13,7 @@ returns-in-Waits c =
 
 pub returns-in-Freed : goal.returns-in-Freed
 returns-in-Freed c =
-    queues_freed c.args.object.number c.args.output.number (input_of c.args.self.now) (input_of c.begin-epoch.new.self)
+    queues_freed c.args.object.number c.args.output.number (input_of c.args.self.now) (input_of c.begin_epoch.new.self)
     (record { object = c.get.result; version = (held (input_of c.args.self.now) c.get-2.result).version }) (waiting_of c.queue.new.self)
     (waits_at (input_of c.args.self.now) c.args.object.number c.get.result c.get-2.result c.get.ensures.is c.get-2.ensures.is)
-    c.requires.owes c.in-Freed.ensures.0 c.in-Freed.ensures.1 c.begin-epoch.ensures
+    c.requires.owes c.in-Freed.ensures.0 c.in-Freed.ensures.1 c.begin_epoch.ensures

@@ -5,8 +5,8 @@ use Rattle.input_server.proofs.Waits.{queues_so_far, queues_more, epoch_left}
 use Rattle.input_server.specs.Views.{input_of}
 use Rattle.input_server.proofs.server.InputServer.queue_all.Goals as goal
 
-pub queue-for-requires : goal.queue-for-requires
-queue-for-requires c =
+pub queue_for-requires : goal.queue_for-requires
+queue_for-requires c =
     let so_far = queues_so_far c.args.object.number c.loop-number.number (input_of c.args.self.now) (input_of c.loop-number.self) c.loop-number.invariant.0 c.loop-number.invariant.1 in
     record {
       inside = omega (arith, c.loop-number-test.true, c.get-number-end.ensures.inside);
@@ -18,8 +18,8 @@ pub loop-number-preserved : goal.loop-number-preserved
 loop-number-preserved c =
     let so_far = queues_so_far c.args.object.number c.loop-number.number (input_of c.args.self.now) (input_of c.loop-number.self) c.loop-number.invariant.0 c.loop-number.invariant.1 in (
       λ z. absurd (omega (arith, z)),
-      λ _. queues_more c.args.object.number c.loop-number.number (input_of c.args.self.now) (input_of c.loop-number.self) (input_of c.queue-for.new.self)
-          so_far c.queue-for.ensures,
+      λ _. queues_more c.args.object.number c.loop-number.number (input_of c.args.self.now) (input_of c.loop-number.self) (input_of c.queue_for.new.self)
+          so_far c.queue_for.ensures,
       omega (arith, c.loop-number-test.true),
     )
 

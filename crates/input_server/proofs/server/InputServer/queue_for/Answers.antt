@@ -4,7 +4,7 @@ use Rattle.input_server.proofs.Waits.{queues_not}
 use Rattle.input_server.specs.Views.{input_of}
 use Rattle.input_server.proofs.server.InputServer.queue_for.Goals as goal
 
-pub returns-else-is-owed : goal.returns-else-is-owed
-returns-else-is-owed c =
+pub returns-else-is_owed : goal.returns-else-is_owed
+returns-else-is_owed c =
     queues_not c.args.object.number c.args.number (input_of c.args.self.now)
-    (ap (λ (j : ℕ). owed (input_of c.args.self.now) c.args.object.number j) (sym c.in-Some.ensures.1) ∙ sym c.if-is-owed.ensures)
+    (ap (λ (j : ℕ). owed (input_of c.args.self.now) c.args.object.number j) (sym c.in-Some.ensures.1) ∙ sym c.if-is_owed.ensures)

@@ -7,8 +7,8 @@ use Rattle.input_server.proofs.server.InputServer.shut_out.Goals as goal
 
 pub loop-number-preserved : goal.loop-number-preserved
 loop-number-preserved c = (
-  set_more (is_shut_out (input_of c.args.self.now) c.args.object.number) c.loop-number.number c.loop-number.set.0 c.with-shut-out-set.result.0
-      c.loop-number.invariant.0 c.with-shut-out-set.ensures,
+  set_more (is_shut_out (input_of c.args.self.now) c.args.object.number) c.loop-number.number c.loop-number.set.0 c.with_shut_out-set.result.0
+      c.loop-number.invariant.0 c.with_shut_out-set.ensures,
   omega (arith, c.loop-number-test.true),
 )
 

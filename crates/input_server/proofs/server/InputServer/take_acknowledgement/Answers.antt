@@ -8,8 +8,8 @@ loop-place-init c = (acked_none c.args.output.number c.args.list (input_of c.arg
 
 pub loop-place-preserved : goal.loop-place-preserved
 loop-place-preserved c = (
-  acked_more c.args.output.number c.args.list c.loop-place.place (input_of c.args.self.now) (input_of c.loop-place.self) (input_of c.acknowledge-at.new.self)
-      (omega (arith, c.loop-place-test.true, c.len-place-end.ensures)) c.loop-place.invariant.0 c.acknowledge-at.ensures,
+  acked_more c.args.output.number c.args.list c.loop-place.place (input_of c.args.self.now) (input_of c.loop-place.self) (input_of c.acknowledge_at.new.self)
+      (omega (arith, c.loop-place-test.true, c.len-place-end.ensures)) c.loop-place.invariant.0 c.acknowledge_at.ensures,
   λ h. absurd (omega (arith, h)),
 )
 

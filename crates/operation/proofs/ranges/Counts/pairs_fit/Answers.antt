@@ -5,8 +5,8 @@ use Rattle.operation.proofs.ranges.Counts.pairs_fit.Goals as goal
 
 pub loop-place-preserved : goal.loop-place-preserved
 loop-place-preserved c =
-    fits_more (counts_of c.args.self) c.args.list c.loop-place.place c.loop-place.fit c.and-fits-fit.result
-    (omega (arith, c.loop-place-test.true, c.len-place-end.ensures)) c.loop-place.invariant c.and-fits-fit.ensures
+    fits_more (counts_of c.args.self) c.args.list c.loop-place.place c.loop-place.fit c.and_fits-fit.result
+    (omega (arith, c.loop-place-test.true, c.len-place-end.ensures)) c.loop-place.invariant c.and_fits-fit.ensures
 
 pub returns : goal.returns
 returns c =

@@ -7,7 +7,7 @@ use Rattle.operation.proofs.sending.SendingWrite.counted.Goals as goal
 pub loop-output-preserved : goal.loop-output-preserved
 loop-output-preserved g c =
     set_more (counts (g.I.QuorumSystem.meaning c.args.inputs.now) (g.I.QuorumSystem.meaning c.args.inputs.now).count c.args.self.now.named)
-    c.loop-output.output c.loop-output.set.0 c.with-counted-set.result.0 c.loop-output.invariant c.with-counted-set.ensures
+    c.loop-output.output c.loop-output.set.0 c.with_counted-set.result.0 c.loop-output.invariant c.with_counted-set.ensures
 
 pub returns : goal.returns
 returns g c =

@@ -11,7 +11,7 @@ loop-input-init c = refl
 pub loop-input-preserved : goal.loop-input-preserved
 unfolding named_fit
 loop-input-preserved c =
-    c.and-named-fits-fit.ensures
+    c.and_named_fits-fit.ensures
     ∙ ap (λ (b : Bool). b && cond (ltb c.loop-input.input c.args.counts.inputs)
     (ltb (named_by c.args.self.now.named c.loop-input.input) (2 ^ c.args.counts.outputs))
     (eqb (named_by c.args.self.now.named c.loop-input.input) 0)) c.loop-input.invariant

@@ -6,8 +6,8 @@ use Rattle.operation.proofs.sending.SendingWrite.namers.Goals as goal
 
 pub loop-input-preserved : goal.loop-input-preserved
 loop-input-preserved c =
-    set_more (λ i. has (named_by c.args.self.now.named i) c.args.output) c.loop-input.input c.loop-input.set.0 c.with-namer-set.result.0
-    c.loop-input.invariant c.with-namer-set.ensures
+    set_more (λ i. has (named_by c.args.self.now.named i) c.args.output) c.loop-input.input c.loop-input.set.0 c.with_namer-set.result.0
+    c.loop-input.invariant c.with_namer-set.ensures
 
 pub returns : goal.returns
 returns c =

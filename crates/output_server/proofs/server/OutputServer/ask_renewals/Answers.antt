@@ -12,14 +12,14 @@ loop-input-preserved c =
     let r = logged_more (renewal c.args.me.number c.args.object.number (outputOf c.args.self.now)) c.loop-input.input
     c.args.made c.loop-input.next c.args.log.now c.loop-input.log
     (renewal c.args.me.number c.args.object.number (outputOf c.args.self.now) c.loop-input.input)
-    c.ask-renewal-next.result c.ask-renewal-next.new.log
-    c.loop-input.invariant.0 c.loop-input.invariant.1 refl c.ask-renewal-next.ensures.says c.ask-renewal-next.ensures.after in (
+    c.ask_renewal-next.result c.ask_renewal-next.new.log
+    c.loop-input.invariant.0 c.loop-input.invariant.1 refl c.ask_renewal-next.ensures.says c.ask_renewal-next.ensures.after in (
       r.0,
       r.1,
       omega (
         arith,
         renewal-one c.args.me.number c.args.object.number (outputOf c.args.self.now) c.loop-input.input,
-        c.ask-renewal-next.ensures.says,
+        c.ask_renewal-next.ensures.says,
         c.loop-input.invariant.2,
       ),
     )

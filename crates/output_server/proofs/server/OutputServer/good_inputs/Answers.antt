@@ -7,8 +7,8 @@ use Rattle.output_server.proofs.server.OutputServer.good_inputs.Goals as goal
 
 pub loop-input-preserved : goal.loop-input-preserved
 loop-input-preserved c =
-    set_more (good (outputOf c.args.self.now) c.args.object.number) c.loop-input.input c.loop-input.set.0 c.with-good-set.result.0
-    c.loop-input.invariant c.with-good-set.ensures
+    set_more (good (outputOf c.args.self.now) c.args.object.number) c.loop-input.input c.loop-input.set.0 c.with_good-set.result.0
+    c.loop-input.invariant c.with_good-set.ensures
 
 pub returns : goal.returns
 returns c =

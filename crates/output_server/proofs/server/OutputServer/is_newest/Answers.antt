@@ -6,7 +6,7 @@ use Rattle.output_server.proofs.server.OutputServer.is_newest.Goals as goal
 
 pub loop-input-preserved : goal.loop-input-preserved
 loop-input-preserved c =
-    c.and-newest-of-newest.ensures
+    c.and_newest_of-newest.ensures
     ∙ ap (λ (b : Bool). b && leb (copy_of (link (outputOf c.args.self.now) c.loop-input.input) c.args.object.number).known.0
     (newest_of (outputOf c.args.self.now) c.args.object.number).version.0) c.loop-input.invariant
     ∙ sym (ap (λ (n : ℕ). covers (outputOf c.args.self.now) c.args.object.number n) (add-one c.loop-input.input))

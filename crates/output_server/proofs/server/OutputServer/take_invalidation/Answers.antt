@@ -7,7 +7,7 @@ use Rattle.output_server.proofs.server.OutputServer.take_invalidation.Goals as g
 pub returns : goal.returns
 returns c = record {
   does = invalidation_taken c.args.me.number c.args.input.number c.args.object.number c.args.version (outputOf c.args.self.now)
-      c.args.made c.args.log.now c.told-pair-pair.result (outputOf c.hear-from.new.self) c.answer-to-one.result
-      (sym c.has-room.ensures ∙ c.if-not-has-room.false) c.told-pair-pair.ensures c.hear-from.ensures c.answer-to-one.ensures;
+      c.args.made c.args.log.now c.told_pair-pair.result (outputOf c.hear_from.new.self) c.answer_to_one.result
+      (sym c.has_room.ensures ∙ c.if-not-has_room.false) c.told_pair-pair.ensures c.hear_from.ensures c.answer_to_one.ensures;
   same = λ h. absurd (clash (sym h));
 }
