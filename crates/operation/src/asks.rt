@@ -89,7 +89,7 @@ impl AskingWrite {
     // The clock of one input server.
     fn hear<I: QuorumSystem>(self, input: u8, clock: u16, inputs: &I) -> AskingStep
         requires { (self.clock < 65535) × (clock < 65535) }
-        ensures { asking_step result ≡ asks_next (meaning inputs.now) (hears_clock input clock (asking_of self)) }
+        ensures { asking_step result ≡ asks_next (I.meaning inputs.now) (hears_clock input clock (asking_of self)) }
     {
         let AskingWrite {
             operation,

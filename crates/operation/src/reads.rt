@@ -84,7 +84,7 @@ impl Read {
         value: u64,
         outputs: &O,
     ) -> ReadStep
-        ensures { read_step result ≡ reads_next (meaning outputs.now) (hears_pair output version value (reading_of self)) }
+        ensures { read_step result ≡ reads_next (O.meaning outputs.now) (hears_pair output version value (reading_of self)) }
     {
         let read = self.with_pair(output, version, value);
         if outputs.is_read_set(read.senders) {

@@ -146,8 +146,8 @@ impl SendingWrite {
 
     // The output servers that count.
     fn counted<I: QuorumSystem>(&self, inputs: &I, outputs: u8) -> MemberSet
-        requires { ((meaning inputs.now).count ≤ 8) × (outputs ≤ 8) }
-        ensures { result.0 ≡ set_of outputs (counts (meaning inputs.now) (meaning inputs.now).count self.now.named) }
+        requires { ((I.meaning inputs.now).count ≤ 8) × (outputs ≤ 8) }
+        ensures { result.0 ≡ set_of outputs (counts (I.meaning inputs.now) (I.meaning inputs.now).count self.now.named) }
     {
         let mut set = MemberSet::EMPTY;
         for output in 0..outputs {
@@ -158,8 +158,8 @@ impl SendingWrite {
 
     // An output server counts when the input servers that named it are a write set.
     fn with_counted<I: QuorumSystem>(&self, set: MemberSet, output: u8, inputs: &I) -> MemberSet
-        requires { ((meaning inputs.now).count ≤ 8) × (output < 8) }
-        ensures { result.0 ≡ (if counts (meaning inputs.now) (meaning inputs.now).count self.now.named output then bit_or set.0 (2 ^ output) else set.0) }
+        requires { ((I.meaning inputs.now).count ≤ 8) × (output < 8) }
+        ensures { result.0 ≡ (if counts (I.meaning inputs.now) (I.meaning inputs.now).count self.now.named output then bit_or set.0 (2 ^ output) else set.0) }
     {
         if inputs.is_write_set(self.namers(output, inputs.count())) {
             set.with(output)

@@ -20,7 +20,7 @@ impl OutputServer {
         count: ServerCount,
         object: ObjectNumber,
     ) -> bool
-        ensures { result ≡ valid (meaning inputs.now) count.count object.number (outputOf self.now) }
+        ensures { result ≡ valid (I.meaning inputs.now) count.count object.number (outputOf self.now) }
     {
         self.is_newest(count, object) && inputs.is_read_set(self.good_inputs(count, object))
     }

@@ -72,7 +72,7 @@ impl OutputServer {
         log: &mut [Message],
         made: usize,
     ) -> Result<usize, Refusal>
-        ensures does { read_step (meaning inputs.now) me.number operation object.number (outputOf self.now) made log.old ≡ step result (outputOf self.now) log.new }
+        ensures does { read_step (I.meaning inputs.now) me.number operation object.number (outputOf self.now) made log.old ≡ step result (outputOf self.now) log.new }
         ensures same { is_ok result ≡ false → log.new ≡ log.old }
     {
         let Some(count) = ServerCount::new(inputs.count()) else {

@@ -16,7 +16,7 @@ pub enum Family {
 impl Family {
     // Whether the set is in this family of the system.
     pub fn has<Q: QuorumSystem>(self, system: &Q, set: MemberSet) -> bool
-        ensures { result ≡ sets_of self (meaning system.now) set.0 }
+        ensures { result ≡ sets_of self (Q.meaning system.now) set.0 }
     {
         match self {
             Family::Read => system.is_read_set(set),
@@ -39,7 +39,7 @@ const MOST: u8 = 8;
 
 // The count of a system, which is refused where it has too many sets to go over.
 fn few_members<Q: QuorumSystem>(system: &Q) -> Result<u8, Refusal>
-    ensures { Surveyed (meaning system.now) (λ n. n ≡ (meaning system.now).count) result }
+    ensures { Surveyed (Q.meaning system.now) (λ n. n ≡ (Q.meaning system.now).count) result }
 {
     let count = system.count();
     if count > MOST {
@@ -57,7 +57,7 @@ fn first_set<Q: QuorumSystem>(
     count: u8,
 ) -> Option<MemberSet>
     requires { count ≤ limit }
-    ensures { First (sets_of family (meaning system.now)) wanted size count result }
+    ensures { First (sets_of family (Q.meaning system.now)) wanted size count result }
 {
     for number in 0..1u64 << count {
         let set = MemberSet(number);
@@ -71,7 +71,7 @@ fn first_set<Q: QuorumSystem>(
 // Whether what is left after that many losses is a set of the family. To lose more members than
 // there are is to lose them all.
 pub fn finds_after<Q: QuorumSystem>(system: &Q, family: Family, lost: u8) -> Result<Finds, Refusal>
-    ensures { let q = meaning system.now in
+    ensures { let q = Q.meaning system.now in
         Surveyed q (FindsAfter (sets_of family q) q.count lost) result }
 {
     let count = few_members(system)?;
@@ -88,7 +88,7 @@ pub fn finds_after<Q: QuorumSystem>(system: &Q, family: Family, lost: u8) -> Res
 
 // The smallest set of the family and, of those of its size, the lowest as a number.
 pub fn smallest_set<Q: QuorumSystem>(system: &Q, family: Family) -> Result<MemberSet, Refusal>
-    ensures { let q = meaning system.now in
+    ensures { let q = Q.meaning system.now in
         Surveyed q (λ s. Smallest (sets_of family q) q.count s.0) result }
 {
     let count = few_members(system)?;
