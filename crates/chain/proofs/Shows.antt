@@ -1,5 +1,5 @@
 -- The list that shows the first pairs of a chain.
-use Rattle.std.proofs.Common.{◌≡◌, ℕ, suc, ◌+◌, ◌-◌, ◌<◌, ◌≤◌, List, [], ◌∷◌, ◌++◌, length, get_or, take, drop, set, replicate, sym, ap, ◌∙◌, add-zero, arith}
+use Rattle.std.proofs.Common.{◌≡◌, ℕ, suc, ◌+◌, ◌<◌, ◌≤◌, List, [], ◌∷◌, ◌++◌, length, get_or, take, drop, set, replicate, sym, ap, ◌∙◌, add-zero, arith}
 use lib.Seq.{sets}
 use Rattle.std.proofs.lemmas.List.{length-drop, length-take-le, take_more, drop_more, take_all}
 use Rattle.numbers.specs.Numbers.{shown}

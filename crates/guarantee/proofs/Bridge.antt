@@ -1,29 +1,27 @@
 -- Every call on an open field either refuses and leaves the state as it was, or does to the state's world what the act of the call does.
-use Rattle.std.proofs.Common.{◌≡◌, ℕ, zero, suc, ◌+◌, ◌-◌, ◌*◌, ◌<◌, ◌≤◌, Bool, true, false, cond, not, ◌&&◌, ◌||◌, eqb, ltb, leb, ◌⊎◌, List, [], ◌∷◌, ◌++◌, length, get_or, take, drop, set, sym, refl, ap, ◌∙◌, subst, inl, inr, append-nil, add-zero, arith, length-append, length-set, length-take, take_at, drop_at}
-use mathlib.Core.Path.{fun_ext}
+use Rattle.std.proofs.Common.{◌≡◌, ℕ, zero, suc, ◌+◌, ◌-◌, ◌<◌, ◌≤◌, Bool, true, cond, eqb, ltb, List, [], ◌∷◌, ◌++◌, length, get_or, take, drop, sym, refl, ap, ◌∙◌, inl, inr, append-nil, arith, length-set, length-take, take_at, drop_at}
 use lib.Seq.{sets, sets-eq, length-sets}
-use Rattle.std.proofs.lemmas.Bool.{cases_eq, cases_lt, cond_both, cond-true, cond-false, and_parts, or_parts, or_cases, ltb-true, ltb-false, leb-true, leb-false, eqb-true, eqb-false, ne_eqb, not-false, not-true, lt-ltb, le-ltb, false≢true}
+use Rattle.std.proofs.lemmas.Bool.{cond_both, cond-false, and_parts, ne_eqb}
 use Rattle.quorum.specs.declared.member_set.MemberSet.{MemberSet}
-use Rattle.quorum.specs.Systems.{System, Lawful}
+use Rattle.quorum.specs.Systems.{System}
 use Rattle.rules.specs.declared.message.Message.{Message}
 use Rattle.rules.specs.declared.message.Message.TheVariants.{ClockQuestion, ClockAnswer, WriteRequest, WriteAnswer, ReadRequest, ReadAnswer, RenewalRequest, RenewalAnswer, Invalidation, InvalidationAnswer}
-use Rattle.numbers.specs.declared.time.Time.{Time}
 use Rattle.numbers.specs.declared.version.Version.{Version}
-use Rattle.rules.specs.Calls.{opening, advancing, beginning, beginning_write, beginning_read, delivering, when_open, as_opened, has_nine, inputs_stay, outputs_stay, keeps_with, keep_each, keeps_drift, later_inputs, later_outputs, advanced, enter, operation_at, with_operation, is_known, in_range, quiet, hears_clock_answer, hears_write_answer, hears_read_answer, receives, no_message, message_at}
-use Rattle.rules.specs.Input.{Input, answers_clock, after_write, answers_write, after_renewal, answers_renewal, acknowledges_all, later_input}
-use Rattle.rules.specs.Lists.{list_of, each}
+use Rattle.rules.specs.Calls.{operation_at, with_operation, is_known, quiet, hears_clock_answer, hears_write_answer, hears_read_answer, receives, message_at}
+use Rattle.rules.specs.Input.{Input, answers_clock, after_write, answers_write, after_renewal, answers_renewal, acknowledges_all}
+use Rattle.rules.specs.Lists.{list_of}
 use Rattle.numbers.specs.Numbers.{between}
-use Rattle.rules.specs.Operation.{Operation, unused, asking, sending, reading, ended, first_asking, first_reading, clock_questions, read_requests, hears_clock, knows_clock, gets_version, write_requests, hears_named, is_written, hears_pair, is_read}
-use Rattle.rules.specs.Output.{Output, answers_read, after_answer, acknowledgement, after_invalidation, answers_invalidation, later_output}
-use Rattle.rules.specs.Ranges.{Counts, numbers_fit, operation_fits, state_fits, has_room}
-use Rattle.rules.specs.State.{Frame, State, Said, refused, accepted, began, nothing_ended, write_ended, read_ended, Outcome, outcome, refuse, input_at, output_at, post, with_input, with_output}
-use Rattle.guarantee.specs.Story.{Call, to_open, to_advance, to_write, to_read, to_deliver, outcome_of, part}
-use Rattle.guarantee.proofs.Fits.{fits_question, fits_clock, fits_request, fits_answer, fits_read, fits_pair, fits_renewal, fits_renewed, fits_invalidation, fits_ack, within_range}
+use Rattle.rules.specs.Operation.{Operation, unused, asking, sending, reading, ended, clock_questions, read_requests, hears_clock, knows_clock, gets_version, write_requests, hears_named, is_written, hears_pair, is_read}
+use Rattle.rules.specs.Output.{Output, answers_read, after_answer, acknowledgement, after_invalidation, answers_invalidation}
+use Rattle.rules.specs.Ranges.{numbers_fit, operation_fits, state_fits, has_room}
+use Rattle.rules.specs.State.{Frame, State, Said, accepted, began, nothing_ended, write_ended, read_ended, Outcome, outcome, input_at, output_at, post, with_input, with_output}
+use Rattle.guarantee.specs.Story.{Call, to_open, to_advance, to_write, to_read, to_deliver, part}
+use Rattle.guarantee.proofs.Fits.{fits_request, fits_renewal, fits_renewed, fits_invalidation, fits_ack, within_range}
 use Rattle.guarantee.proofs.InputMoves as Ins
 use Rattle.guarantee.proofs.Kept.{Small, May}
 use Rattle.guarantee.proofs.OutputMoves as Outs
-use Rattle.guarantee.proofs.Words.{at, at_same, In, each_nine}
-use Rattle.guarantee.proofs.World.{Params, World, Act, ticks, writes, reads, hears, run, world_of, sent_of, op_of, at_input, at_output, at_op, clock_state, clock_news, write_state, write_says, read_state, read_says, world_path, sent_post, inp_with, out_with, op_with, op_enter, at_back}
+use Rattle.guarantee.proofs.Words.{at, In, each_nine}
+use Rattle.guarantee.proofs.World.{Params, World, Act, ticks, writes, reads, hears, run, world_of, sent_of, op_of, at_input, at_output, at_op, clock_state, clock_news, write_state, write_says, read_state, read_says, world_path, sent_post, inp_with, out_with, op_with, at_back}
 
 abbrev pub params_of : System → System → State → Params
 params_of inputs outputs s = record {

@@ -1,5 +1,5 @@
 -- The laws of single calls and of single steps of a server.
-use Rattle.std.proofs.Common.{◌≡◌, ℕ, zero, suc, ◌+◌, ◌-◌, ◌<◌, ◌≤◌, Bool, true, false, cond, ◌&&◌, List, [], ◌∷◌, length, get_or, take, set, sym, refl, ap, ◌∙◌, subst, inl, inr, arith, get_or-set_other}
+use Rattle.std.proofs.Common.{◌≡◌, ℕ, zero, suc, ◌+◌, ◌-◌, ◌<◌, ◌≤◌, Bool, false, cond, ◌&&◌, List, [], ◌∷◌, length, get_or, take, set, sym, refl, ap, ◌∙◌, subst, inl, inr, arith, get_or-set_other}
 use lib.Seq.{sets}
 use Rattle.std.proofs.lemmas.Bool.{cases_eq, cond-false, lt-ltb, le-ltb, false≢true}
 use Rattle.quorum.specs.declared.member_set.MemberSet.{MemberSet}

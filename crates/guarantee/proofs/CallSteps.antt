@@ -1,24 +1,23 @@
 -- Each of the calls on an open field: it refuses and leaves the state as it was, or it is accepted.
-use Rattle.std.proofs.Common.{◌≡◌, ℕ, zero, suc, ◌+◌, ◌-◌, ◌*◌, ◌<◌, ◌≤◌, Bool, true, false, cond, not, ◌&&◌, ◌||◌, eqb, ltb, leb, ◌⊎◌, List, [], ◌∷◌, ◌++◌, length, get_or, take, drop, set, sym, refl, ap, ◌∙◌, subst, inl, inr, append-nil, add-zero, arith, length-set}
+use Rattle.std.proofs.Common.{◌≡◌, ℕ, zero, suc, ◌+◌, ◌-◌, ◌*◌, ◌<◌, ◌≤◌, Bool, true, false, cond, not, ◌&&◌, ◌||◌, eqb, ltb, leb, ◌⊎◌, List, [], ◌∷◌, length, get_or, take, drop, sym, refl, ap, ◌∙◌, subst, inl, inr, add-zero, arith, length-set}
 use mathlib.Core.Path.{fun_ext}
-use lib.Seq.{sets, length-sets}
-use Rattle.std.proofs.lemmas.Bool.{cases_eq, cases_lt, cond_both, cond-true, cond-false, and_parts, or_parts, leb-true, leb-false, ltb-false, eqb-true, eqb-false, not-false, lt-ltb, le-ltb, false≢true}
+use lib.Seq.{length-sets}
+use Rattle.std.proofs.lemmas.Bool.{cases_eq, cases_lt, cond_both, cond-true, and_parts, or_parts, leb-true, leb-false, ltb-false, eqb-true, eqb-false, not-false, lt-ltb, le-ltb}
 use Rattle.quorum.specs.Systems.{System}
 use Rattle.rules.specs.declared.message.Message.{Message}
 use Rattle.rules.specs.declared.message.Message.TheVariants.{ClockQuestion, ReadRequest}
-use Rattle.numbers.specs.declared.time.Time.{Time}
 use Rattle.rules.specs.Calls.{opening, advancing, beginning, beginning_write, beginning_read, delivering, when_open, as_opened, has_nine, inputs_stay, outputs_stay, keeps_with, keep_each, keeps_drift, later_inputs, later_outputs, advanced, enter, operation_at, is_known, in_range, receives, message_at, no_message}
 use Rattle.rules.specs.Input.{Input, later_input}
-use Rattle.numbers.specs.Numbers.{between, keeps_pair}
+use Rattle.numbers.specs.Numbers.{keeps_pair}
 use Rattle.rules.specs.Operation.{Operation, unused, asking, reading, first_asking, first_reading, clock_questions, read_requests}
 use Rattle.rules.specs.Output.{Output, later_output}
-use Rattle.rules.specs.Ranges.{Counts, numbers_fit, operation_fits, has_room}
-use Rattle.rules.specs.State.{Frame, State, Said, refused, accepted, began, Outcome, outcome, refuse, no_input, no_output, input_at, output_at, post, with_input, with_output}
+use Rattle.rules.specs.Ranges.{numbers_fit, operation_fits, has_room}
+use Rattle.rules.specs.State.{Frame, State, accepted, began, Outcome, outcome, refuse, no_input, no_output, input_at, output_at, post}
 use Rattle.guarantee.specs.Story.{Call, to_open, to_advance, to_write, to_read, to_deliver, outcome_of}
 use Rattle.guarantee.proofs.Bridge.{params_of, act_of, says_of, news_of, Framed, Accepted, logged, none_logged, in_sent, receives_accepted}
-use Rattle.guarantee.proofs.Kept.{Small, May, slow}
+use Rattle.guarantee.proofs.Kept.{Small, May}
 use Rattle.guarantee.proofs.Words.{at, at_same, at_miss, set_at, each_nine}
-use Rattle.guarantee.proofs.World.{Params, World, Act, ticks, writes, reads, hears, run, begins, world_of, sent_of, op_of, world_path, sent_post, op_enter}
+use Rattle.guarantee.proofs.World.{Params, Act, writes, reads, run, begins, world_of, world_path, sent_post, op_enter}
 
 -- a refusal leaves the state as it was
 abbrev pub Refuses : State → Outcome → Type 0

@@ -1,14 +1,13 @@
 -- What an answer says of the act: which acts end a write, end a read, begin an operation, or log write requests.
-use Rattle.std.proofs.Common.{◌≡◌, ℕ, zero, suc, ◌+◌, ◌<◌, ◌≤◌, Bool, true, false, cond, ◌⊎◌, List, [], ◌∷◌, ◌++◌, sym, refl, ap, ◌∙◌, subst, inl, inr, arith}
+use Rattle.std.proofs.Common.{◌≡◌, ℕ, ◌+◌, Bool, true, false, cond, List, [], ◌∷◌, sym, refl, ap, subst, inl, inr, arith}
 use Rattle.std.proofs.lemmas.Bool.{cond_both}
 use Rattle.quorum.specs.declared.member_set.MemberSet.{MemberSet}
 use Rattle.rules.specs.declared.message.Message.{Message}
 use Rattle.rules.specs.declared.message.Message.TheVariants.{ClockQuestion, ClockAnswer, WriteRequest, WriteAnswer, ReadRequest, ReadAnswer, RenewalRequest, RenewalAnswer, Invalidation, InvalidationAnswer}
 use Rattle.numbers.specs.declared.version.Version.{Version}
-use Rattle.rules.specs.Input.{after_write, answers_write}
-use Rattle.rules.specs.Lists.{each}
+use Rattle.rules.specs.Input.{after_write}
 use Rattle.rules.specs.Operation.{Operation, unused, asking, sending, reading, ended, Asking, Sending, Reading, clock_questions, read_requests, write_requests, gets_version, hears_clock, knows_clock, hears_named, is_written, hears_pair, is_read}
-use Rattle.rules.specs.State.{Said, accepted, began, nothing_ended, write_ended, read_ended}
+use Rattle.rules.specs.State.{began, nothing_ended, write_ended, read_ended}
 use Rattle.guarantee.proofs.Bridge.{says_of, news_of}
 use Rattle.guarantee.proofs.InputMoves as Ins
 use Rattle.guarantee.proofs.OutputMoves as Outs

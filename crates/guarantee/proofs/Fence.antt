@@ -1,8 +1,8 @@
 -- The fence of one channel: it stands once established, and a good copy has passed it.
-use Rattle.std.proofs.Common.{◌≡◌, ℕ, ◌+◌, ◌*◌, ◌/◌, ◌<◌, ◌≤◌, ◌⊎◌, List, [], ◌∷◌, sym, refl, subst, inl, inr, mul-le-mul_left, arith}
+use Rattle.std.proofs.Common.{◌≡◌, ℕ, ◌+◌, ◌*◌, ◌<◌, ◌≤◌, ◌⊎◌, List, sym, subst, inl, inr, mul-le-mul_left, arith}
 use native.Mathlib.Decide.{dec_le}
 use Rattle.rules.specs.declared.pairs.Pair.{Pair}
-use Rattle.guarantee.proofs.View.{Has, View, fin, Grant, Inv, Moves, Older, Known, Dead, Fenced, Good, Shut, Queued, Part, asked, copy, lease, answer, Fresh}
+use Rattle.guarantee.proofs.View.{Has, View, fin, Grant, Inv, Moves, Older, Known, Dead, Fenced, Good, Shut, Queued, asked, copy, lease, answer}
 
 -- a good copy has passed the fence
 pub pass : (L R : ℕ) (V : View) (o w : ℕ) → Inv L R V → Fenced R V o w → Good V o → w ≤ V.known o

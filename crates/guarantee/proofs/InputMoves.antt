@@ -1,5 +1,5 @@
 -- How each step of an input server moves its channels, and what the step keeps.
-use Rattle.std.proofs.Common.{◌≡◌, ℕ, zero, suc, ◌+◌, ◌*◌, ◌/◌, ◌<◌, ◌≤◌, max, true, false, cond, not, ◌&&◌, ◌||◌, eqb, ltb, leb, ◌⊎◌, List, [], ◌∷◌, ◌++◌, length, get_or, take, drop, set, replicate, sym, refl, ap, ◌∙◌, subst, ap₂, subst₂, inl, inr, append-nil, arith, length-append, length-set, take_all, get_or-set_other, get_or-set_same}
+use Rattle.std.proofs.Common.{◌≡◌, ℕ, zero, suc, ◌+◌, ◌*◌, ◌<◌, ◌≤◌, max, true, false, cond, not, ◌&&◌, ◌||◌, eqb, ltb, leb, ◌⊎◌, List, [], ◌∷◌, ◌++◌, length, get_or, take, drop, set, replicate, sym, refl, ap, ◌∙◌, subst, ap₂, subst₂, inl, inr, append-nil, arith, length-append, length-set, take_all, get_or-set_other, get_or-set_same}
 use lib.Seq.{sets-eq, take-append_seam}
 use Rattle.std.proofs.lemmas.Bool.{cases_eq, cases_Bool, cond_both, cond-true, cond-false, eqb-true, leb-true, leb-false, ltb-true, ltb-false, not-false, and_parts, and_cases, or_cases}
 use Rattle.quorum.specs.Sets.{set_of}
@@ -16,7 +16,7 @@ use Rattle.numbers.specs.declared.version.Version.{Version}
 use Rattle.rules.specs.Input.{Input, no_held, no_ledger, held, ledger, chain, last_read, last_ack, is_shut_out, queued, freed, fits}
 use Rattle.rules.specs.Input.{takes_write, owed, with_chain, queues_for, queues_all, after_write, invalidations, answers_write}
 use Rattle.rules.specs.Input.{grants, answers_renewal, after_renewal, acknowledges, acknowledges_all, later_input}
-use Rattle.rules.specs.Lists.{no_pair, list_of, pairs, each}
+use Rattle.rules.specs.Lists.{no_pair, list_of, pairs}
 use Rattle.numbers.specs.Numbers.{none, clock_of, raised, shown}
 use Rattle.rules.specs.Output.{Output, later_output}
 use Rattle.rules.specs.Renewals.{asks_object, asks_volume}

@@ -1,37 +1,29 @@
 -- Each accepted call takes nothing back, and keeps what is kept.
-use Rattle.std.proofs.Common.{◌≡◌, ℕ, zero, suc, ◌+◌, ◌-◌, ◌*◌, ◌/◌, ◌<◌, ◌≤◌, max, Bool, true, false, cond, ◌&&◌, eqb, ltb, leb, ◌⊎◌, List, [], ◌∷◌, ◌++◌, length, get_or, sym, refl, ap, ◌∙◌, subst, inl, inr, append-nil, arith}
-use Rattle.std.proofs.lemmas.Bool.{cases_eq, cond_both, cond-true, and_parts, false≢true, cases_Bool}
+use Rattle.std.proofs.Common.{◌≡◌, ℕ, ◌+◌, ◌<◌, ◌≤◌, ◌⊎◌, sym, refl, ap, subst, inl, inr, arith}
 use Rattle.quorum.specs.declared.member_set.MemberSet.{MemberSet}
-use Rattle.quorum.specs.Sets.{has, full, joined, set_of}
-use Rattle.quorum.specs.Systems.{System, Lawful}
 use Rattle.numbers.specs.declared.epoch.Epoch.{Epoch}
 use Rattle.rules.specs.declared.kept.Held.{Held}
-use Rattle.rules.specs.declared.kept.Newest.{Newest}
 use Rattle.rules.specs.declared.message.Message.{Message}
 use Rattle.rules.specs.declared.message.Message.TheVariants.{ClockQuestion, ClockAnswer, WriteRequest, WriteAnswer, ReadRequest, ReadAnswer, RenewalRequest, RenewalAnswer, Invalidation, InvalidationAnswer}
 use Rattle.rules.specs.declared.parts.Parts.{Parts}
 use Rattle.rules.specs.declared.pairs.Pairs.{Pairs}
 use Rattle.numbers.specs.declared.time.Time.{Time}
 use Rattle.numbers.specs.declared.version.Version.{Version}
-use Rattle.rules.specs.Input.{Input, held, is_shut_out, answers_clock, after_write, answers_write, after_renewal, answers_renewal, acknowledges_all, later_input}
-use Rattle.rules.specs.Lists.{list_of, each}
-use Rattle.numbers.specs.Numbers.{none, clock_of}
-use Rattle.rules.specs.Operation.{Operation, unused, asking, sending, reading, ended, Asking, Sending, Reading, first_asking, first_reading, clock_questions, read_requests, write_requests, gets_version, hears_clock, knows_clock, hears_named, is_written, hears_pair, is_read, named_by}
-use Rattle.rules.specs.Output.{Output, newest_of, valid, covers, good, answers_read, after_answer, acknowledgement, after_invalidation, answers_invalidation, later_output, link, copy_of}
-use Rattle.rules.specs.Renewals.{asks_object}
-use Rattle.guarantee.proofs.View.{View, Inv, Moves, Fenced}
-use Rattle.guarantee.proofs.Fence.{invariant, stable, establish}
-use Rattle.guarantee.proofs.Channel.{view_of, InputShape, OutputShape}
-use Rattle.guarantee.proofs.Fits.{ClockFits, RequestFits, RenewalFits, RenewedFits, InvalidationFits, AckFits, fits_clock, fits_request, fits_answer, fits_read, fits_pair, fits_renewal, fits_renewed, fits_invalidation, fits_ack}
+use Rattle.rules.specs.Input.{Input, held, after_write, after_renewal, acknowledges_all}
+use Rattle.rules.specs.Lists.{list_of}
+use Rattle.rules.specs.Operation.{Operation, asking, reading, first_asking, first_reading}
+use Rattle.rules.specs.Output.{Output, newest_of, after_answer, after_invalidation}
+use Rattle.guarantee.proofs.View.{Inv}
+use Rattle.guarantee.proofs.Fence.{invariant, stable}
+use Rattle.guarantee.proofs.Channel.{InputShape, OutputShape}
 use Rattle.guarantee.proofs.InputMoves as Ins
 use Rattle.guarantee.proofs.InputMoves.{Clocked}
-use Rattle.guarantee.proofs.Kept.{slow, view, Begun, Requested, AskedFor, Genuine, Wrote, Reads, Stands, Named, Clocks, Heard, MsgOk, AskingOk, SendingOk, ReadingOk, OpOk, Small, Kept, May, Grows, begun_grows, requested_grows, genuine_grows, msg_grows, op_grows}
-use Rattle.guarantee.proofs.Operations.{wrote_clock, wrote_write, wrote_read, reads_clock, reads_write, reads_read, moved_op, named_none, named_from, pair_from}
+use Rattle.guarantee.proofs.Kept.{slow, view, Begun, Genuine, Wrote, Reads, MsgOk, Small, Kept, May, Grows}
+use Rattle.guarantee.proofs.Operations.{wrote_clock, wrote_write, wrote_read, reads_clock, reads_write, reads_read, moved_op}
 use Rattle.guarantee.proofs.OutputMoves as Outs
-use Rattle.guarantee.proofs.Sets.{of_set_of, to_set_of, of_joined}
 use Rattle.guarantee.proofs.Steps.{moves}
-use Rattle.guarantee.proofs.Words.{at, at_cases, at_same, at_miss, In, Any, All, all_map, all-++, all_at, any_old, any_new, each_all, any_each}
-use Rattle.guarantee.proofs.World.{Params, World, Act, ticks, writes, reads, hears, run, clock_state, clock_news, write_state, read_state}
+use Rattle.guarantee.proofs.Words.{at, at_cases, at_miss, In, all_at, any_old}
+use Rattle.guarantee.proofs.World.{Params, World, Act, ticks, writes, reads, hears, run, clock_state, write_state, read_state}
 
 -- ---- what a step leaves of a server
 

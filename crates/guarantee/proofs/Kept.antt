@@ -1,20 +1,20 @@
 -- What every world of a story keeps: of each channel, each message made, each operation and each server.
-use Rattle.std.proofs.Common.{◌≡◌, ℕ, zero, suc, ◌+◌, ◌-◌, ◌*◌, ◌/◌, ◌<◌, ◌≤◌, Bool, true, false, cond, ◌⊎◌, List, [], ◌∷◌, ◌++◌, length, get_or, sym, refl, ap, ◌∙◌, subst, inl, inr, arith}
+use Rattle.std.proofs.Common.{◌≡◌, ℕ, ◌-◌, ◌*◌, ◌/◌, ◌<◌, ◌≤◌, true, ◌⊎◌, List, length, inl, inr, arith}
 use Rattle.quorum.specs.declared.member_set.MemberSet.{MemberSet}
 use Rattle.quorum.specs.Sets.{has}
 use Rattle.rules.specs.declared.message.Message.{Message}
 use Rattle.rules.specs.declared.message.Message.TheVariants.{ClockQuestion, ClockAnswer, WriteRequest, WriteAnswer, ReadRequest, ReadAnswer, RenewalRequest, RenewalAnswer, Invalidation, InvalidationAnswer}
 use Rattle.numbers.specs.declared.version.Version.{Version}
-use Rattle.rules.specs.Input.{Input, held}
+use Rattle.rules.specs.Input.{held}
 use Rattle.numbers.specs.Numbers.{starting, clock_of}
 use Rattle.rules.specs.Operation.{Operation, unused, asking, sending, reading, ended, Asking, Sending, Reading, named_by}
-use Rattle.rules.specs.Output.{Output, newest_of}
+use Rattle.rules.specs.Output.{newest_of}
 use Rattle.rules.specs.Ranges.{numbers_fit}
 use Rattle.rules.specs.Renewals.{asks_object}
-use Rattle.guarantee.proofs.View.{View, Inv, Moves, Fenced}
+use Rattle.guarantee.proofs.View.{View, Inv, Fenced}
 use Rattle.guarantee.proofs.Channel.{view_of, InputShape, OutputShape}
-use Rattle.guarantee.proofs.Words.{at, at_cases, Any, In, All, all_map}
-use Rattle.guarantee.proofs.World.{Params, World, Act, ticks, writes, reads, hears, run}
+use Rattle.guarantee.proofs.Words.{In, All}
+use Rattle.guarantee.proofs.World.{Params, World, Act, ticks, writes, reads, hears}
 
 abbrev pub slow : Params → ℕ
 slow P = 1000 - P.drift

@@ -1,18 +1,17 @@
 -- Leases run out at the output server no later than at the input server that granted them.
-use Rattle.std.proofs.Common.{◌≡◌, ℕ, ◌-◌, ◌<◌, ◌≤◌, true, false, ◌⊎◌, List, take, sym, refl, ◌∙◌, subst, inl, inr}
+use Rattle.std.proofs.Common.{◌≡◌, ◌-◌, ◌≤◌, take, sym, refl, ◌∙◌, subst, inl, inr}
 use Rattle.std.proofs.lemmas.Bool.{false≢true}
-use Rattle.rules.specs.declared.message.Message.{Message}
 use Rattle.rules.specs.declared.message.Message.TheVariants.{RenewalAnswer}
 use Rattle.rules.specs.Lists.{list_of}
 use Rattle.numbers.specs.Numbers.{lease_end}
-use Rattle.rules.specs.State.{State, output_at}
-use Rattle.guarantee.specs.Leases.{AllOver, LeasesRunOut}
+use Rattle.rules.specs.State.{output_at}
+use Rattle.guarantee.specs.Leases.{LeasesRunOut}
 use Rattle.guarantee.specs.Story.{before}
 use Rattle.guarantee.proofs.Bridge.{params_of}
 use Rattle.guarantee.proofs.Channel.{Says}
 use Rattle.guarantee.proofs.Fence.{over}
 use Rattle.guarantee.proofs.Kept.{view, Kept}
-use Rattle.guarantee.proofs.Stories.{has_in, Known, fine}
+use Rattle.guarantee.proofs.Stories.{has_in, fine}
 use Rattle.guarantee.proofs.View.{lease}
 use Rattle.guarantee.proofs.Words.{in_any}
 use Rattle.guarantee.proofs.World.{Params, world_of}

@@ -1,32 +1,29 @@
 -- What is kept of a world is kept of the next: its new messages and its new operations are as they should be.
-use Rattle.std.proofs.Common.{◌≡◌, ℕ, zero, suc, ◌+◌, ◌-◌, ◌*◌, ◌/◌, ◌<◌, ◌≤◌, max, Bool, true, false, cond, ◌&&◌, ◌⊎◌, List, [], ◌∷◌, ◌++◌, length, sym, refl, ap, ◌∙◌, subst, inl, inr, arith}
-use Rattle.std.proofs.lemmas.Bool.{cases_eq, cond_both, cond-true, cond-false, and_parts, false≢true}
+use Rattle.std.proofs.Common.{◌≡◌, ℕ, ◌+◌, ◌/◌, ◌<◌, ◌≤◌, Bool, true, false, cond, ◌⊎◌, List, [], ◌∷◌, ◌++◌, sym, refl, ap, ◌∙◌, subst, inl, inr, arith}
+use Rattle.std.proofs.lemmas.Bool.{cond_both, cond-true, and_parts, false≢true}
 use Rattle.quorum.specs.declared.member_set.MemberSet.{MemberSet}
-use Rattle.quorum.specs.Sets.{has, full, joined, set_of}
-use Rattle.quorum.specs.Systems.{System, Lawful}
+use Rattle.quorum.specs.Sets.{has, full, set_of}
+use Rattle.quorum.specs.Systems.{Lawful}
 use Rattle.rules.specs.declared.kept.Newest.{Newest}
 use Rattle.rules.specs.declared.message.Message.{Message}
 use Rattle.rules.specs.declared.message.Message.TheVariants.{ClockQuestion, ClockAnswer, WriteRequest, WriteAnswer, ReadRequest, ReadAnswer, RenewalRequest, RenewalAnswer, Invalidation, InvalidationAnswer}
-use Rattle.rules.specs.declared.parts.Parts.{Parts}
 use Rattle.numbers.specs.declared.version.Version.{Version}
 use Rattle.rules.specs.Input.{Input, held, is_shut_out, answers_clock, after_write, answers_write, answers_renewal}
-use Rattle.rules.specs.Lists.{each}
-use Rattle.numbers.specs.Numbers.{none, clock_of}
-use Rattle.rules.specs.Operation.{Operation, unused, asking, sending, reading, ended, Asking, Sending, Reading, first_asking, first_reading, clock_questions, read_requests, write_requests, gets_version, hears_clock, knows_clock, hears_named, is_written, hears_pair, is_read, named_by}
-use Rattle.rules.specs.Output.{Output, newest_of, valid, covers, good, answers_read, acknowledgement}
-use Rattle.rules.specs.Renewals.{asks_object}
-use Rattle.guarantee.proofs.View.{View, Inv, Fenced, Shut, Queued}
+use Rattle.numbers.specs.Numbers.{none}
+use Rattle.rules.specs.Operation.{Operation, unused, asking, sending, reading, ended, Asking, Sending, Reading, first_asking, first_reading, clock_questions, read_requests, write_requests, gets_version, hears_clock, knows_clock, hears_named, is_written, hears_pair, is_read}
+use Rattle.rules.specs.Output.{newest_of, valid, covers, good, answers_read, acknowledgement}
+use Rattle.guarantee.proofs.View.{Inv, Fenced}
 use Rattle.guarantee.proofs.Fence.{establish}
 use Rattle.guarantee.proofs.Channel.{view_of}
-use Rattle.guarantee.proofs.Fits.{ClockFits, fits_clock, fits_request, fits_answer, fits_read, fits_pair, fits_renewal}
+use Rattle.guarantee.proofs.Fits.{ClockFits, fits_clock, fits_request, fits_read, fits_pair, fits_renewal}
 use Rattle.guarantee.proofs.InputMoves as Ins
 use Rattle.guarantee.proofs.OutputMoves as Outs
 use Rattle.guarantee.proofs.Keeps.{inputs_step, outputs_step, chans_next, grows}
-use Rattle.guarantee.proofs.Kept.{slow, view, Begun, Requested, AskedFor, Genuine, Wrote, Reads, Stands, Named, Clocks, Heard, MsgOk, AskingOk, SendingOk, ReadingOk, OpOk, Small, Kept, May, Grows, begun_grows, requested_grows, genuine_grows, msg_grows, op_grows}
+use Rattle.guarantee.proofs.Kept.{slow, Begun, Requested, AskedFor, Genuine, Wrote, Reads, Stands, Named, MsgOk, AskingOk, SendingOk, ReadingOk, OpOk, Small, Kept, May, Grows, requested_grows, genuine_grows, msg_grows, op_grows}
 use Rattle.guarantee.proofs.Operations.{named_none, named_from, pair_from}
 use Rattle.guarantee.proofs.Sets.{has_none, of_set_of, of_joined}
 use Rattle.guarantee.proofs.Steps.{moves}
-use Rattle.guarantee.proofs.Words.{at, at_cases, at_same, In, Any, All, all_map, all-++, all_at, any_old, any_new, each_all, any_each}
+use Rattle.guarantee.proofs.Words.{at, at_cases, at_same, In, All, all_map, all-++, all_at, any_old, any_new, each_all, any_each}
 use Rattle.guarantee.proofs.World.{Params, World, Act, ticks, writes, reads, hears, run, clock_state, clock_news, write_state, read_state}
 
 module _ (P : Params) (small : Small P) (lawful : Lawful P.inputs) (W : World) (k : Kept P W) where

@@ -1,31 +1,29 @@
 -- What a field that has just been opened keeps, and that nothing else can be done with a field that is not open.
-use Rattle.std.proofs.Common.{◌≡◌, ℕ, zero, suc, ◌+◌, ◌-◌, ◌*◌, ◌/◌, ◌<◌, ◌≤◌, Bool, true, false, cond, not, ◌&&◌, ◌||◌, eqb, ltb, leb, ◌⊎◌, List, [], ◌∷◌, ◌++◌, length, get_or, replicate, sym, refl, ap, ◌∙◌, subst, inl, inr, arith}
+use Rattle.std.proofs.Common.{◌≡◌, ℕ, zero, suc, ◌+◌, ◌<◌, ◌≤◌, Bool, true, false, cond, not, ◌&&◌, ◌||◌, eqb, ltb, ◌⊎◌, List, [], ◌∷◌, length, get_or, replicate, sym, refl, ap, ◌∙◌, subst, inl, inr, arith}
 use mathlib.Core.Path.{fun_ext}
 use lib.ListN.{length-replicate, get_or-replicate, get_or-eq_default}
-use Rattle.std.proofs.lemmas.Bool.{cases_lt, cond_both, cond-false, or_parts, and_parts, ltb-false, leb-true, eqb-true, not-false, lt-ltb, le-ltb}
+use Rattle.std.proofs.lemmas.Bool.{cases_lt, cond_both, cond-false, or_parts, ltb-false, not-false, lt-ltb, le-ltb}
 use Rattle.quorum.specs.Systems.{System, Lawful}
 use Rattle.rules.specs.declared.kept.Copied.{Copied}
 use Rattle.rules.specs.declared.kept.Held.{Held}
 use Rattle.rules.specs.declared.kept.Ledger.{Ledger}
 use Rattle.rules.specs.declared.kept.Link.{Link}
 use Rattle.rules.specs.declared.kept.Newest.{Newest}
-use Rattle.rules.specs.declared.message.Message.{Message}
 use Rattle.rules.specs.declared.pairs.Pair.{Pair}
 use Rattle.numbers.specs.declared.time.Time.{Time}
-use Rattle.numbers.specs.declared.version.Version.{Version}
-use Rattle.rules.specs.Calls.{opening, advancing, beginning, beginning_write, beginning_read, delivering, when_open, as_opened, opened, start_clock, clocks_fit}
+use Rattle.rules.specs.Calls.{opening, advancing, beginning_write, beginning_read, delivering, opened, start_clock, clocks_fit}
 use Rattle.rules.specs.Input.{Input, no_held, no_ledger, held, ledger, last_read, last_ack, first_input}
 use Rattle.rules.specs.Lists.{each}
 use Rattle.numbers.specs.Numbers.{none, starting, between, longest, clock_of}
 use Rattle.rules.specs.Operation.{Operation}
 use Rattle.rules.specs.Output.{Output, no_newest, no_copy, no_link, newest_of, link, copy_of, first_output}
-use Rattle.rules.specs.State.{Frame, State, Said, accepted, Outcome, outcome, refuse, input_at, output_at, no_input, no_output}
+use Rattle.rules.specs.State.{State, accepted, Outcome, outcome, refuse}
 use Rattle.guarantee.specs.Story.{Call, to_open, to_advance, to_write, to_read, to_deliver, outcome_of}
 use Rattle.guarantee.proofs.Bridge.{params_of, Framed}
 use Rattle.guarantee.proofs.CallSteps.{Refuses}
 use Rattle.guarantee.proofs.Channel.{view_of, InputShape, OutputShape}
 use Rattle.guarantee.proofs.Fits.{within_range}
-use Rattle.guarantee.proofs.Kept.{slow, Genuine, Small, Kept}
+use Rattle.guarantee.proofs.Kept.{slow, Small, Kept}
 use Rattle.guarantee.proofs.View.{Inv}
 use Rattle.guarantee.proofs.Words.{each_at, each_long}
 use Rattle.guarantee.proofs.World.{Params, World, world_of, op_of, world_path}

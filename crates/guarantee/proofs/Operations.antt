@@ -1,18 +1,15 @@
 -- What an answer leaves of an operation: nothing that it wrote or reads is taken back, and what it gathers is in the log.
-use Rattle.std.proofs.Common.{◌≡◌, ℕ, zero, suc, ◌+◌, ◌-◌, ◌*◌, ◌/◌, ◌<◌, ◌≤◌, max, Bool, true, false, cond, ◌||◌, eqb, ltb, leb, ◌⊎◌, List, [], ◌∷◌, ◌++◌, length, get_or, set, replicate, sym, refl, ap, ◌∙◌, subst, inl, inr, arith}
+use Rattle.std.proofs.Common.{◌≡◌, ℕ, zero, suc, ◌<◌, ◌≤◌, Bool, true, false, cond, ltb, ◌⊎◌, List, set, replicate, sym, refl, ◌∙◌, subst, inl, inr}
 use lib.Bits.{bit_or}
-use Rattle.std.proofs.lemmas.Bool.{cond_both, cases_Bool, cases_lt, ltb-true, ltb-false, or_cases, false≢true, leb-true, and_parts}
-use Rattle.std.proofs.lemmas.Bool.Decides.{nat_tests}
+use Rattle.std.proofs.lemmas.Bool.{cond_both, ltb-true, ltb-false, or_cases, false≢true}
 use Rattle.quorum.specs.declared.member_set.MemberSet.{MemberSet}
-use Rattle.quorum.specs.Sets.{has, joined}
-use Rattle.rules.specs.declared.message.Message.{Message}
-use Rattle.rules.specs.declared.message.Message.TheVariants.{ClockAnswer, WriteRequest, WriteAnswer, ReadRequest, ReadAnswer}
+use Rattle.quorum.specs.Sets.{has}
 use Rattle.numbers.specs.declared.version.Version.{Version}
-use Rattle.rules.specs.Operation.{Operation, unused, asking, sending, reading, ended, Asking, Sending, Reading, named_by, hears_clock, knows_clock, gets_version, write_requests, hears_named, is_written, hears_pair, is_read}
-use Rattle.guarantee.proofs.Sets.{has_or, has_none, of_joined}
-use Rattle.guarantee.proofs.Words.{at, at_cases, at_same, at_miss, set_from, Any, In, All, all_at, any_new, any_old, any_each}
-use Rattle.guarantee.proofs.World.{Params, World, clock_state, clock_news, write_state, read_state}
-use Rattle.guarantee.proofs.Kept.{Begun, Requested, Genuine, Wrote, Reads, Stands, Named, Clocks, Heard, MsgOk, AskingOk, SendingOk, ReadingOk, OpOk}
+use Rattle.rules.specs.Operation.{Operation, unused, asking, sending, reading, ended, Reading, named_by, hears_named, is_written, hears_pair, is_read}
+use Rattle.guarantee.proofs.Sets.{has_or, has_none}
+use Rattle.guarantee.proofs.Words.{at, at_cases, set_from}
+use Rattle.guarantee.proofs.World.{Params, clock_state, write_state, read_state}
+use Rattle.guarantee.proofs.Kept.{Wrote, Reads}
 
 -- ---- nothing is taken back
 

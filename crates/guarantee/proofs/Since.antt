@@ -1,27 +1,26 @@
 -- From the end of a write on: what the read answers and clock answers to a later operation know of it.
-use Rattle.std.proofs.Common.{◌≡◌, ℕ, zero, suc, ◌+◌, ◌-◌, ◌*◌, ◌/◌, ◌<◌, ◌≤◌, max, Bool, true, false, cond, ◌&&◌, ◌⊎◌, List, [], ◌∷◌, ◌++◌, sym, refl, ap, ◌∙◌, subst, inl, inr, append-nil, arith}
+use Rattle.std.proofs.Common.{◌≡◌, ℕ, ◌+◌, ◌*◌, ◌/◌, ◌<◌, ◌≤◌, max, true, List, [], ◌∷◌, ◌++◌, sym, refl, ap, subst, inl, inr, append-nil, arith}
 use Rattle.std.proofs.lemmas.Bool.{cond_both, and_parts}
 use Rattle.quorum.specs.declared.member_set.MemberSet.{MemberSet}
-use Rattle.quorum.specs.Sets.{has, full, joined, set_of}
-use Rattle.quorum.specs.Systems.{System, Lawful}
+use Rattle.quorum.specs.Sets.{has, joined, set_of}
+use Rattle.quorum.specs.Systems.{Lawful}
 use Rattle.rules.specs.declared.message.Message.{Message}
 use Rattle.rules.specs.declared.message.Message.TheVariants.{ClockQuestion, ClockAnswer, WriteRequest, WriteAnswer, ReadRequest, ReadAnswer, RenewalRequest, RenewalAnswer, Invalidation, InvalidationAnswer}
 use Rattle.numbers.specs.declared.version.Version.{Version}
-use Rattle.rules.specs.Input.{after_write, answers_write}
-use Rattle.rules.specs.Operation.{Operation, unused, asking, sending, reading, ended, Asking, Sending, Reading, named_by, counts, clock_questions, read_requests, write_requests, gets_version, hears_clock, knows_clock, hears_named, is_written, hears_pair, is_read}
-use Rattle.rules.specs.Output.{Output, newest_of, valid, covers, good}
-use Rattle.guarantee.proofs.View.{View}
+use Rattle.rules.specs.Input.{after_write}
+use Rattle.rules.specs.Operation.{Operation, unused, asking, sending, reading, ended, named_by, counts, write_requests, gets_version, hears_clock, knows_clock, hears_named, hears_pair}
+use Rattle.rules.specs.Output.{newest_of, valid, covers, good}
 use Rattle.guarantee.proofs.Fence.{pass}
 use Rattle.guarantee.proofs.Bridge.{news_of}
 use Rattle.guarantee.proofs.Ends.{WriteEnds, ReadEnds, GetsVersion}
-use Rattle.guarantee.proofs.Fits.{ClockFits, fits_clock, fits_read}
+use Rattle.guarantee.proofs.Fits.{fits_clock}
 use Rattle.guarantee.proofs.InputMoves as Ins
 use Rattle.guarantee.proofs.Keeps.{grows}
-use Rattle.guarantee.proofs.Kept.{slow, view, Begun, Stands, Named, MsgOk, OpOk, AskingOk, ReadingOk, Small, Kept, May, Grows, begun_grows}
+use Rattle.guarantee.proofs.Kept.{slow, view, Begun, Named, OpOk, AskingOk, ReadingOk, Small, Kept, May, Grows, begun_grows}
 use Rattle.guarantee.proofs.Next.{named_next, heard_next}
 use Rattle.guarantee.proofs.OutputMoves as Outs
-use Rattle.guarantee.proofs.Sets.{of_set_of, to_set_of, of_joined}
-use Rattle.guarantee.proofs.Words.{In, All, all_map, all-++, all_at, each_all}
+use Rattle.guarantee.proofs.Sets.{of_set_of, of_joined}
+use Rattle.guarantee.proofs.Words.{In, All, all-++, all_at, each_all}
 use Rattle.guarantee.proofs.World.{Params, World, Act, ticks, writes, reads, hears, run, clock_news}
 
 -- what an act logs is what joins the log

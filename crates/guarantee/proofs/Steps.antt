@@ -1,21 +1,16 @@
 -- Each accepted call moves each channel as a step may.
-use Rattle.std.proofs.Common.{◌≡◌, ℕ, zero, suc, ◌+◌, ◌-◌, ◌*◌, ◌<◌, ◌≤◌, Bool, true, false, cond, ◌⊎◌, List, [], ◌∷◌, ◌++◌, sym, refl, ap, ◌∙◌, subst, subst₂, inl, inr, append-nil, arith}
+use Rattle.std.proofs.Common.{◌≡◌, ℕ, ◌+◌, ◌<◌, List, [], ◌∷◌, ◌++◌, sym, ap, subst, subst₂, inl, inr, append-nil, arith}
 use Rattle.std.proofs.lemmas.Bool.{cases_eq, cond_both}
-use Rattle.numbers.specs.declared.epoch.Epoch.{Epoch}
 use Rattle.rules.specs.declared.message.Message.{Message}
 use Rattle.rules.specs.declared.message.Message.TheVariants.{ClockQuestion, ClockAnswer, WriteRequest, WriteAnswer, ReadRequest, ReadAnswer, RenewalRequest, RenewalAnswer, Invalidation, InvalidationAnswer}
-use Rattle.rules.specs.declared.parts.Parts.{Parts}
 use Rattle.rules.specs.declared.pairs.Pair.{Pair}
-use Rattle.rules.specs.declared.pairs.Pairs.{Pairs}
-use Rattle.numbers.specs.declared.time.Time.{Time}
-use Rattle.numbers.specs.declared.version.Version.{Version}
 use Rattle.rules.specs.Input.{Input, answers_clock, after_write, answers_write, after_renewal, answers_renewal, acknowledges_all}
 use Rattle.rules.specs.Lists.{list_of, each}
 use Rattle.rules.specs.Operation.{Operation, unused, asking, sending, reading, ended, clock_questions, read_requests, write_requests, gets_version, hears_clock, knows_clock}
 use Rattle.rules.specs.Output.{Output, answers_read, after_answer, acknowledgement, after_invalidation, answers_invalidation}
-use Rattle.guarantee.proofs.View.{View, Part, Moves}
-use Rattle.guarantee.proofs.Channel.{Says, view_of, Quiet, InputShape, OutputShape}
-use Rattle.guarantee.proofs.Words.{at, at_cases, In, Any, All, all_map, each_all}
+use Rattle.guarantee.proofs.View.{Part, Moves}
+use Rattle.guarantee.proofs.Channel.{Says, view_of, Quiet, InputShape}
+use Rattle.guarantee.proofs.Words.{at, at_cases, Any, All, all_map, each_all}
 use Rattle.guarantee.proofs.World.{Params, World, Act, ticks, writes, reads, hears, run, clock_news}
 use Rattle.guarantee.proofs.Fits.{RenewalFits, RenewedFits, InvalidationFits, AckFits, fits_request, fits_renewal, fits_renewed, fits_invalidation, fits_ack}
 use Rattle.guarantee.proofs.Kept.{Kept, Small, May, slow, view}

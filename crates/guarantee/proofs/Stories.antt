@@ -1,15 +1,14 @@
 -- The read guarantee, over every story.
-use Rattle.std.proofs.Common.{◌≡◌, ℕ, zero, suc, ◌+◌, ◌-◌, ◌*◌, ◌/◌, ◌<◌, ◌≤◌, Bool, true, false, cond, ◌⊎◌, List, [], ◌∷◌, ◌++◌, length, get_or, take, drop, sym, refl, ap, ◌∙◌, subst, inl, inr, arith}
-use Rattle.std.proofs.lemmas.Bool.{cases_eq, cases_lt, cases_order, cases_Bool, cond_both, false≢true}
+use Rattle.std.proofs.Common.{◌≡◌, ℕ, zero, suc, ◌+◌, ◌-◌, ◌<◌, ◌≤◌, Bool, true, false, cond, ◌⊎◌, List, [], ◌∷◌, length, get_or, take, drop, sym, refl, ap, ◌∙◌, subst, inl, inr, arith}
+use Rattle.std.proofs.lemmas.Bool.{cases_lt, cases_order, cond_both}
 use Rattle.quorum.specs.declared.member_set.MemberSet.{MemberSet}
 use Rattle.quorum.specs.Sets.{full, set_of}
-use Rattle.quorum.specs.Systems.{System, Lawful}
+use Rattle.quorum.specs.Systems.{Lawful}
 use Rattle.rules.specs.declared.message.Message.{Message}
 use Rattle.rules.specs.declared.message.Message.TheVariants.{ClockQuestion, ClockAnswer, WriteRequest, WriteAnswer, ReadRequest, ReadAnswer, RenewalRequest, RenewalAnswer, Invalidation, InvalidationAnswer}
 use Rattle.numbers.specs.declared.version.Version.{Version}
-use Rattle.numbers.specs.Numbers.{starting}
-use Rattle.rules.specs.Operation.{Operation, unused, asking, sending, reading, ended, Asking, Sending, Reading, counts, clock_questions, read_requests, first_asking, first_reading, hears_clock, knows_clock, gets_version, hears_named, is_written, hears_pair, is_read}
-use Rattle.rules.specs.State.{Frame, State, Said, refused, accepted, began, nothing_ended, write_ended, read_ended, Outcome, refuse}
+use Rattle.rules.specs.Operation.{Operation, unused, asking, sending, reading, ended, Asking, Reading, counts, clock_questions, read_requests, first_asking, first_reading, hears_clock, knows_clock, gets_version, hears_named, is_written, hears_pair, is_read}
+use Rattle.rules.specs.State.{Frame, State, refused, accepted, began, Outcome, refuse}
 use Rattle.guarantee.specs.Story.{Story, Call, to_open, to_advance, to_write, to_read, to_deliver, outcome_of, call_at, before, said_at, logged_at, part, Has, BeginsWrite, BeginsRead, Gets, EndsWrite, EndsRead}
 use Rattle.guarantee.specs.Guarantee.{NeverBehind, NeverInvented, AlwaysRising, OneVersion, Written, EndOf, Guarantee, EveryStory}
 use Rattle.guarantee.proofs.Bridge.{params_of, act_of, says_of, news_of, Framed, Accepted, none_logged}
@@ -17,14 +16,14 @@ use Rattle.guarantee.proofs.CallSteps.{Refuses, Stepped, call_step}
 use Rattle.guarantee.proofs.Ends.{WriteEnds, write_ends, ReadEnds, read_ends, GetsVersion, gets_version_lem, asks_read, begins_next}
 use Rattle.guarantee.proofs.Fits.{fits_pair}
 use Rattle.guarantee.proofs.Keeps.{ops_up, grows}
-use Rattle.guarantee.proofs.Kept.{Begun, Requested, Genuine, Named, MsgOk, OpOk, AskingOk, SendingOk, ReadingOk, Small, Kept, May, Grows}
+use Rattle.guarantee.proofs.Kept.{Begun, Genuine, MsgOk, OpOk, AskingOk, SendingOk, ReadingOk, Small, Kept, May}
 use Rattle.guarantee.proofs.Next.{keeps, heard_next}
-use Rattle.guarantee.proofs.Opens.{Opened, closed_step}
+use Rattle.guarantee.proofs.Opens.{closed_step}
 use Rattle.guarantee.proofs.Operations.{pair_from}
 use Rattle.guarantee.proofs.Sets.{of_set_of}
 use Rattle.guarantee.proofs.Since.{sent_is, Settled, settled_grows, settles, SinceRead, since_read, read_not_behind, SinceWrite, since_write, version_rises, Late, Wise}
-use Rattle.guarantee.proofs.Words.{at, at_cases, at_same, In, Any, any_split, any_in, All, all_map, all-++, all_at, each_all}
-use Rattle.guarantee.proofs.World.{Params, World, Act, ticks, writes, reads, hears, run, world_of, clock_state, write_state, read_state}
+use Rattle.guarantee.proofs.Words.{at, at_cases, at_same, In, any_split, All, all_map, all-++, all_at, each_all}
+use Rattle.guarantee.proofs.World.{Params, World, Act, writes, reads, hears, run, world_of, clock_state, write_state, read_state}
 
 never : {A : Type 0} → ◌≡◌ {A = ℕ} 0 1 → A
 never h = absurd (omega arith)

@@ -1,9 +1,9 @@
 -- The field as the proofs see it: servers and operations as functions of their numbers, and the messages made so far.
 -- What each accepted call does to it, by the rules' own handlers.
-use Rattle.std.proofs.Common.{◌≡◌, ℕ, zero, suc, ◌+◌, ◌-◌, ◌<◌, ◌≤◌, Bool, true, false, cond, eqb, ◌⊎◌, List, [], ◌∷◌, ◌++◌, length, get_or, take, drop, set, sym, refl, ap, ◌∙◌, inl, inr, append-nil, arith, length-append, length-set, length-take, take_all}
+use Rattle.std.proofs.Common.{◌≡◌, ℕ, zero, suc, ◌+◌, ◌-◌, ◌<◌, ◌≤◌, Bool, false, cond, eqb, List, [], ◌∷◌, ◌++◌, length, get_or, take, drop, set, sym, refl, ap, ◌∙◌, inl, inr, arith, length-append, length-take, take_all}
 use mathlib.Core.Path.{fun_ext}
-use lib.Seq.{sets, sets-eq, take-append-le}
-use Rattle.std.proofs.lemmas.Bool.{cases_eq, cond_both, eq-eqb, ne_eqb}
+use lib.Seq.{sets-eq, take-append-le}
+use Rattle.std.proofs.lemmas.Bool.{cases_eq, eq-eqb, ne_eqb}
 use Rattle.quorum.specs.declared.member_set.MemberSet.{MemberSet}
 use Rattle.quorum.specs.Systems.{System}
 use Rattle.rules.specs.declared.message.Message.{Message}
@@ -16,7 +16,7 @@ use Rattle.rules.specs.Operation.{Operation, unused, asking, sending, reading, e
 use Rattle.rules.specs.Output.{Output, answers_read, after_answer, acknowledgement, after_invalidation, answers_invalidation, later_output}
 use Rattle.rules.specs.Ranges.{Counts}
 use Rattle.rules.specs.State.{State, Said, nothing_ended, write_ended, read_ended, input_at, output_at, post, with_input, with_output}
-use Rattle.guarantee.proofs.Words.{at, at_cases, at_same, at_miss, set_at}
+use Rattle.guarantee.proofs.Words.{at, at_cases, at_miss, set_at}
 
 -- what opening fixes, with the two systems
 pub record Params : Type 0 where

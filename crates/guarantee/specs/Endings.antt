@@ -1,6 +1,6 @@
 -- When operations end: with the delivery that completes their quorums, no earlier, no later, and once. What an operation
 -- has gathered is read off the calls of a story, what they say, and the log; never off the table.
-use Rattle.std.specs.Prelude.{◌≡◌, ℕ, zero, suc, ◌<◌, Bool, true, false, cond, ◌↔◌, List, length, set, replicate, Some, None, Option, ◌==◌, bit_or, slice_set}
+use Rattle.std.specs.Prelude.{◌≡◌, ℕ, zero, suc, ◌<◌, Bool, true, false, cond, ◌↔◌, List, length, replicate, Some, None, Option, ◌==◌, bit_or, slice_set}
 use Rattle.quorum.specs.declared.member_set.MemberSet.{MemberSet}
 use Rattle.quorum.specs.Sets.{joined, set_of}
 use Rattle.quorum.specs.Systems.{Lawful}

@@ -1,6 +1,6 @@
 -- The read guarantee: what holds in every story, over any two quorum systems that show the laws.
 use Rattle.std.specs.Prelude.{◌≡◌, ℕ, ◌<◌, ◌≤◌, false, ◌⊎◌}
-use Rattle.quorum.specs.Systems.{System, Lawful}
+use Rattle.quorum.specs.Systems.{Lawful}
 use Rattle.guarantee.specs.Story.{Story, BeginsWrite, BeginsRead, Gets, EndsWrite, EndsRead}
 
 -- A read that ends has a version at least that of every write of its object that ended before the read began.

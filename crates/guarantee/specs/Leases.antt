@@ -1,6 +1,6 @@
 -- The law of leases: why an input server that has waited a lease out need not ask.
 use Rattle.std.specs.Prelude.{◌≡◌, ℕ, ◌<◌, ◌≤◌, true, false, length, take}
-use Rattle.quorum.specs.Systems.{System, Lawful}
+use Rattle.quorum.specs.Systems.{Lawful}
 use Rattle.numbers.specs.declared.epoch.Epoch.{Epoch}
 use Rattle.rules.specs.declared.message.Message.TheVariants.{RenewalAnswer}
 use Rattle.rules.specs.declared.parts.Parts.{Parts}

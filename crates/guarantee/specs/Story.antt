@@ -1,6 +1,6 @@
 -- A story: some calls, made one after the other from a field that is not yet open, whatever its log and table hold.
 -- What begins, gets a version and ends in it is read off the answers of the calls and the messages that they log.
-use Rattle.std.specs.Prelude.{◌≡◌, ℕ, zero, suc, ◌-◌, ◌<◌, false, List, length, slice_index_or, slice_range}
+use Rattle.std.specs.Prelude.{◌≡◌, ℕ, zero, suc, ◌<◌, List, length, slice_index_or, slice_range}
 use Rattle.quorum.specs.Systems.{System}
 use Rattle.rules.specs.declared.message.Message.{Message}
 use Rattle.rules.specs.declared.message.Message.TheVariants.{WriteRequest}

@@ -1,12 +1,11 @@
 -- What a write changes: the version held, and what waits for one output server after the other.
-use Rattle.std.proofs.Common.{◌≡◌, ℕ, zero, suc, ◌+◌, ◌<◌, ◌≤◌, max, Bool, true, false, cond, ◌&&◌, ltb, leb, ◌⊎◌, List, [], ◌∷◌, get_or, set, sym, refl, ap, ◌∙◌, inl, inr, add-one, arith, get_or-set_other}
+use Rattle.std.proofs.Common.{◌≡◌, ℕ, zero, suc, ◌+◌, ◌<◌, ◌≤◌, max, Bool, true, false, ◌&&◌, ltb, leb, List, [], ◌∷◌, get_or, set, sym, refl, ap, ◌∙◌, inl, inr, add-one, arith, get_or-set_other}
 use Rattle.std.proofs.lemmas.Bool.{cond-true, cond-false, cond_both, cases_eq, and_parts}
-use Rattle.numbers.specs.declared.epoch.Epoch.{Epoch}
 use Rattle.numbers.specs.declared.version.Version.{Version}
 use Rattle.numbers.specs.Numbers.{clock_of}
 use Rattle.rules.specs.declared.kept.Ledger.{Ledger}
 use Rattle.rules.specs.declared.pairs.Pair.{Pair}
-use Rattle.rules.specs.Input.{Input, no_ledger, held, ledger, chain, owed, queued, fits, with_chain, takes_write, queues_for, queues_all}
+use Rattle.rules.specs.Input.{Input, no_ledger, held, ledger, chain, owed, queued, fits, takes_write, queues_for, queues_all}
 use Rattle.input_server.specs.Epochs.{last_epoch, has_epoch, have_epochs, next_epoch}
 
 -- ---- the version held

@@ -1,5 +1,5 @@
 -- The steps of an input server alone: what each says and leaves. A step that refuses leaves server and log as they were.
-use Rattle.std.specs.Prelude.{ℕ, ◌+◌, Bool, cond, List, [], ◌∷◌, nat_le}
+use Rattle.std.specs.Prelude.{ℕ, ◌+◌, cond, List, [], ◌∷◌, nat_le}
 use Rattle.numbers.specs.declared.time.Time.{Time}
 use Rattle.numbers.specs.declared.version.Version.{Version}
 use Rattle.numbers.specs.Numbers.{last_time}

@@ -2,7 +2,7 @@ use quorum::Refusal;
 use std::io;
 
 // Why the program stops before its end.
-#[derive(Drop)]
+#[derive(Debug, Drop)]
 pub enum Stop {
     Refused(Refusal),
     Output(io::Error),

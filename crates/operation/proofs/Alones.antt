@@ -1,12 +1,12 @@
 -- What is known of a message and a state that are not refused.
-use Rattle.std.proofs.Common.{◌≡◌, ℕ, ◌<◌, ◌≤◌, Bool, true, false, cond, not, ◌&&◌, ◌||◌, eqb, ltb, leb, sym, refl, ap, ◌∙◌, subst, arith}
-use Rattle.std.proofs.lemmas.Bool.{cond_both, and_parts, or_parts, leb-true, ltb-true, ltb-false, eqb-false, not-true}
+use Rattle.std.proofs.Common.{◌≡◌, ℕ, ◌<◌, ◌≤◌, Bool, true, false, cond, ◌&&◌, eqb, ltb, leb, sym, refl, subst, arith}
+use Rattle.std.proofs.lemmas.Bool.{and_parts, or_parts, leb-true, ltb-true, ltb-false, eqb-false, not-true}
 use Rattle.quorum.specs.declared.member_set.MemberSet.{MemberSet}
 use Rattle.quorum.specs.Systems.{System}
 use Rattle.numbers.specs.Numbers.{between}
 use Rattle.rules.specs.declared.message.Message.{Message}
-use Rattle.rules.specs.declared.message.Message.TheVariants.{ClockAnswer, WriteAnswer, ReadAnswer}
-use Rattle.rules.specs.Operation.{Operation, asking, Asking}
+use Rattle.rules.specs.declared.message.Message.TheVariants.{ClockAnswer, WriteAnswer}
+use Rattle.rules.specs.Operation.{asking, Asking}
 use Rattle.rules.specs.Ranges.{numbers_fit, operation_fits, asking_fits, has_room}
 use Rattle.operation.specs.Alone.{widest, too_many, refusal_with, refusal_alone}
 

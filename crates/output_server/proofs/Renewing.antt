@@ -1,5 +1,5 @@
 -- A loop that asks for renewals makes one message a turn at most.
-use Rattle.std.proofs.Common.{ℕ, ◌+◌, ◌≤◌, Bool, cond, not, List, [], ◌∷◌, length, arith}
+use Rattle.std.proofs.Common.{ℕ, ◌≤◌, List, [], length, arith}
 use Rattle.std.proofs.lemmas.Bool.{cond_both}
 use Rattle.rules.specs.declared.message.Message.{Message}
 use Rattle.rules.specs.Output.{Output, good, renewal}

@@ -1,15 +1,14 @@
 -- A step that is taken, from what its parts leave.
-use Rattle.std.proofs.Common.{◌≡◌, ℕ, ◌+◌, Bool, true, cond, List, [], ◌∷◌, length, set, Ok, sym, refl, ap, ◌∙◌}
+use Rattle.std.proofs.Common.{◌≡◌, ℕ, ◌+◌, Bool, true, cond, List, [], ◌∷◌, length, set, Ok, sym, ap, ◌∙◌}
 use lib.Seq.{sets}
 use Rattle.std.proofs.lemmas.Bool.{cond-true}
 use Rattle.numbers.specs.declared.version.Version.{Version}
 use Rattle.rules.specs.declared.message.Message.{Message}
 use Rattle.rules.specs.declared.message.Message.TheVariants.{InvalidationAnswer}
 use Rattle.rules.specs.declared.pairs.Pair.{Pair}
-use Rattle.rules.specs.declared.pairs.Pairs.{Pairs}
-use Rattle.rules.specs.Lists.{pairs, list_of}
+use Rattle.rules.specs.Lists.{pairs}
 use Rattle.rules.specs.Output.{Output, link, hears, acknowledgement, after_answer, after_invalidation}
-use Rattle.rules.specs.Steps.{Step, step, steps, has_room}
+use Rattle.rules.specs.Steps.{step, has_room}
 use Rattle.output_server.specs.declared.renewal.Renewal.{Renewal}
 use Rattle.output_server.specs.Renewing.{renewed, acceptsRenewal}
 use Rattle.output_server.specs.Steps.{answerStep, invalidationStep}

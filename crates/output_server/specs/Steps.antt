@@ -1,5 +1,5 @@
 -- The steps of an output server alone: what each says and leaves. A step that refuses leaves server and log as they were.
-use Rattle.std.specs.Prelude.{ℕ, ◌+◌, Bool, cond, List, nat_le, nat_lt}
+use Rattle.std.specs.Prelude.{ℕ, ◌+◌, cond, List, nat_le, nat_lt}
 use Rattle.quorum.specs.Systems.{System}
 use Rattle.numbers.specs.declared.epoch.Epoch.{Epoch}
 use Rattle.numbers.specs.declared.time.Time.{Time}

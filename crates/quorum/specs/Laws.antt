@@ -1,10 +1,10 @@
 -- The laws of the systems, each from sizes alone.
-use Rattle.std.specs.Prelude.{◌≡◌, ℕ, ◌+◌, ◌-◌, ◌/◌, ◌^◌, ◌<◌, ◌≤◌, Bool, true, ◌&&◌, ◌==◌, count_ones, nat_eq, refl}
+use Rattle.std.specs.Prelude.{◌≡◌, ℕ, ◌+◌, ◌/◌, ◌^◌, ◌<◌, ◌≤◌, true, ◌==◌, count_ones, nat_eq}
 use Rattle.std.proofs.Common.{ap, ◌∙◌, arith}
 use Rattle.std.specs.Int.Count.{ones-ones}
 use Rattle.std.proofs.Math.Pow.{ones_lt}
-use Rattle.quorum.specs.Sets.{has, Within, full}
-use Rattle.quorum.specs.Systems.{System, Lawful, Family, at_least, majority, read_one_write_all}
+use Rattle.quorum.specs.Sets.{has, full}
+use Rattle.quorum.specs.Systems.{Lawful, Family, at_least, majority, read_one_write_all}
 use Rattle.quorum.specs.Members.{share, ones_within, ones_full}
 
 pub record Large (k n s : ℕ) : Type 0 where

@@ -1,9 +1,8 @@
 -- Members of sets: how many a set has, and that two large sets share one.
-use Rattle.std.specs.Prelude.{◌≡◌, ℕ, zero, suc, ◌+◌, ◌-◌, ◌*◌, ◌/◌, ◌%◌, ◌^◌, ◌<◌, ◌≤◌, max, Bool, true, false, ◌||◌, ◌⊎◌, ◌==◌, count_ones, nat_eq, nat_lt, refl}
+use Rattle.std.specs.Prelude.{◌≡◌, ℕ, zero, suc, ◌+◌, ◌/◌, ◌%◌, ◌^◌, ◌<◌, ◌≤◌, true, false, ◌⊎◌, ◌==◌, count_ones, nat_eq, nat_lt}
 use Rattle.std.proofs.Common.{sym, ap, ◌∙◌, inl, inr, pow-suc, one-add, arith, pow_pos, pow_mono, shr-shr}
 use Rattle.std.proofs.Math.Nat.{div-eq_of_lt}
-use Rattle.std.specs.Int.Bits.{bit_or, or_step}
-use Rattle.std.specs.Int.Count.{ones_step, ones-ones}
+use Rattle.std.specs.Int.Count.{ones_step}
 use Rattle.std.proofs.lemmas.Nat.{ones-le}
 use Rattle.std.proofs.lemmas.Bool.Decides.{nat_tests}
 use Rattle.quorum.specs.Sets.{has, Within, full}

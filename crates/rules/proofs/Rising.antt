@@ -1,5 +1,5 @@
 -- One turn more of a loop that gathers a set, and its end.
-use Rattle.std.proofs.Common.{◌≡◌, ℕ, ◌+◌, ◌^◌, ◌≤◌, Bool, cond, sym, refl, ap, ◌∙◌, add-one, arith}
+use Rattle.std.proofs.Common.{◌≡◌, ℕ, ◌+◌, ◌^◌, ◌≤◌, Bool, cond, sym, ap, ◌∙◌, add-one, arith}
 use lib.Bits.{bit_or}
 use Rattle.quorum.specs.Sets.{set_of}
 

@@ -1,5 +1,5 @@
 -- The four calls: what each says, and the field, log and table that it leaves.
-use Rattle.std.specs.Prelude.{ℕ, zero, suc, ◌+◌, ◌-◌, Bool, true, false, cond, not, ◌&&◌, ◌||◌, List, [], ◌∷◌, ◌++◌, length, ◌==◌, nat_le, nat_lt, slice_index, slice_index_or, slice_set}
+use Rattle.std.specs.Prelude.{ℕ, zero, suc, ◌+◌, ◌-◌, Bool, true, cond, not, ◌&&◌, ◌||◌, List, [], ◌∷◌, length, ◌==◌, nat_le, nat_lt, slice_index, slice_index_or, slice_set}
 use Rattle.quorum.specs.declared.member_set.MemberSet.{MemberSet}
 use Rattle.quorum.specs.Systems.{System}
 use Rattle.rules.specs.declared.message.Message.{Message}
@@ -9,10 +9,10 @@ use Rattle.numbers.specs.declared.version.Version.{Version}
 use Rattle.rules.specs.Input.{answers_clock, after_write, answers_write, after_renewal, answers_renewal, acknowledges_all, first_input, later_input}
 use Rattle.rules.specs.Lists.{list_of, each}
 use Rattle.numbers.specs.Numbers.{between, keeps_pair, last_time, longest}
-use Rattle.rules.specs.Operation.{Operation, unused, asking, sending, reading, ended, Asking, Sending, Reading, first_asking, first_reading, clock_questions, read_requests, hears_clock, knows_clock, gets_version, write_requests, hears_named, is_written, hears_pair, is_read}
+use Rattle.rules.specs.Operation.{Operation, unused, asking, sending, reading, ended, first_asking, first_reading, clock_questions, read_requests, hears_clock, knows_clock, gets_version, write_requests, hears_named, is_written, hears_pair, is_read}
 use Rattle.rules.specs.Output.{answers_read, after_answer, acknowledgement, after_invalidation, answers_invalidation, first_output, later_output}
-use Rattle.rules.specs.Ranges.{Counts, numbers_fit, operation_fits, state_fits, has_room}
-use Rattle.rules.specs.State.{Frame, State, Said, refused, accepted, began, nothing_ended, write_ended, read_ended, Outcome, outcome, refuse, input_at, output_at, post, with_input, with_output}
+use Rattle.rules.specs.Ranges.{numbers_fit, operation_fits, state_fits, has_room}
+use Rattle.rules.specs.State.{State, accepted, began, nothing_ended, write_ended, read_ended, Outcome, outcome, refuse, input_at, output_at, post, with_input, with_output}
 
 -- ---- opening
 

@@ -1,5 +1,5 @@
 -- An operation: its states, what it gathers from answers, and when it ends.
-use Rattle.std.specs.Prelude.{ℕ, zero, suc, ◌+◌, max, Bool, true, false, cond, List, [], ◌∷◌, set, replicate, bit_or, nat_lt, slice_index_or, slice_set}
+use Rattle.std.specs.Prelude.{ℕ, ◌+◌, max, Bool, cond, List, [], ◌∷◌, replicate, bit_or, nat_lt, slice_index_or, slice_set}
 use Rattle.quorum.specs.declared.member_set.MemberSet.{MemberSet}
 use Rattle.quorum.specs.Sets.{has, joined, set_of}
 use Rattle.quorum.specs.Systems.{System}

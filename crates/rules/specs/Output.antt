@@ -1,5 +1,5 @@
 -- An output server: what it keeps, when it may answer a read, and what it does with each kind of message.
-use Rattle.std.specs.Prelude.{ℕ, zero, suc, ◌+◌, Bool, true, false, cond, not, ◌&&◌, ◌||◌, List, [], ◌∷◌, ◌++◌, length, get_or, replicate, ◌==◌, nat_le, nat_lt, slice_index_or, slice_set}
+use Rattle.std.specs.Prelude.{ℕ, zero, suc, ◌+◌, Bool, true, cond, not, ◌&&◌, List, [], ◌∷◌, length, get_or, replicate, ◌==◌, nat_le, nat_lt, slice_index_or, slice_set}
 use Rattle.quorum.specs.Sets.{set_of}
 use Rattle.quorum.specs.Systems.{System}
 use Rattle.numbers.specs.declared.epoch.Epoch.{Epoch}
@@ -13,7 +13,7 @@ use Rattle.rules.specs.declared.pairs.Pair.{Pair}
 use Rattle.rules.specs.declared.pairs.Pairs.{Pairs}
 use Rattle.numbers.specs.declared.time.Time.{Time}
 use Rattle.numbers.specs.declared.version.Version.{Version}
-use Rattle.rules.specs.Lists.{pairs, list_of, each}
+use Rattle.rules.specs.Lists.{pairs, each}
 use Rattle.numbers.specs.Numbers.{none, raised, later, longer, live, lease_end}
 use Rattle.rules.specs.Renewals.{asks_object, asks_volume, parts_of}
 

@@ -1,5 +1,5 @@
 -- A field with its lent log and table, and what a call says.
-use Rattle.std.specs.Prelude.{ℕ, ◌+◌, Bool, List, ◌++◌, length, slice_index_or, slice_set}
+use Rattle.std.specs.Prelude.{ℕ, ◌+◌, Bool, List, length, slice_index_or, slice_set}
 use Rattle.std.proofs.lemmas.List.Edits.{sets}
 use Rattle.rules.specs.declared.message.Message.{Message}
 use Rattle.rules.specs.Input.{Input, first_input}

@@ -1,4 +1,4 @@
-use Rattle.std.proofs.Common.{◌≡◌, sym, ap, ◌∙◌, subst, arith}
+use Rattle.std.proofs.Common.{sym, ap, ◌∙◌, subst, arith}
 use Rattle.chain.specs.Records.{Sound}
 use Rattle.chain.specs.Waiting.{waiting_in}
 use Rattle.chain.proofs.Fresh.{fresh_sound, fresh_waiting}

@@ -1,4 +1,4 @@
-use Rattle.std.proofs.Common.{◌≡◌, ℕ, ap, ◌∙◌, arith}
+use Rattle.std.proofs.Common.{ℕ, ap, ◌∙◌, arith}
 use Rattle.rules.proofs.Rising.{at_end}
 use Rattle.rules.specs.Input.{queues_all}
 use Rattle.input_server.proofs.Waits.{queues_so_far, queues_more, epoch_left}

@@ -1,4 +1,4 @@
-use Rattle.std.proofs.Common.{sym, ◌∙◌, rules}
+use Rattle.std.proofs.Common.{sym, ◌∙◌}
 use Rattle.input_server.proofs.Waits.{write_taken, write_older}
 use Rattle.input_server.specs.Views.{input_of}
 use Rattle.input_server.proofs.server.InputServer.take_version.Goals as goal

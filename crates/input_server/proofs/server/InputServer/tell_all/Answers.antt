@@ -1,4 +1,4 @@
-use Rattle.std.proofs.Common.{ℕ, ◌+◌, length, sym, refl, ap, ◌∙◌, arith}
+use Rattle.std.proofs.Common.{ℕ, ◌+◌, length, refl, ap, ◌∙◌, arith}
 use lib.Seq.{sets}
 use Rattle.rules.proofs.Logging.{logged_more}
 use Rattle.rules.proofs.Rising.{at_end}
