@@ -220,11 +220,11 @@ module _ (s : Chains) (out : OutputNumber) where
             waiting_same _ (ap (freed o w) waiting_whole ∙ freed_above o w st.front here.0 here.1 st.none not_after a ∙ sym waiting_whole)
 
         -- the records and heads once what stood before x leads past it
-        module _ (rs1 : List Record) (hs1 : List ℕ) (r-is : rs1 ≡ linked_records rs b r.next) (h-is : hs1 ≡ linked_heads hs j b r.next) where
+        module _ (rs1 : List Record) (hs1 : List ℕ) (r_is : rs1 ≡ linked_records rs b r.next) (h_is : hs1 ≡ linked_heads hs j b r.next) where
           unlinked_view : View (relinked rs1 x f) hs1 x (set cs j (st.front ++ here.1)) (here.0 ∷ line rs f)
           unlinked_view =
               subst₂ (λ qs gs. View (relinked qs x f) gs x (set cs j (st.front ++ here.1)) (here.0 ∷ line rs f))
-              (sym (r-is ∙ ap (λ q. linked_records rs b q.next) is)) (sym (h-is ∙ ap (λ q. linked_heads hs j b q.next) is))
+              (sym (r_is ∙ ap (λ q. linked_records rs b q.next) is)) (sym (h_is ∙ ap (λ q. linked_heads hs j b q.next) is))
               (view_unlinked rs hs f cs (line rs f) v j out.inside st.front here.0 here.1 b x line_whole st.before st.last
               here.3 here.4)
 
@@ -289,11 +289,11 @@ module _ (s : Chains) (out : OutputNumber) where
           map-append (λ (y : Entry). y.pair) (get_or cs j []) _ ∙ ap (λ es. pairs_along es ++ (q ∷ [])) line_front
           ∙ sym (queued_none q front at_place.none) ∙ ap (queued q) (sym (waiting_front q.object p.before p.here at_place gone))
 
-      module _ (rs1 : List Record) (hs1 : List ℕ) (r-is : rs1 ≡ linked_records (filled rs f q) p.before f) (h-is : hs1 ≡ linked_heads hs j p.before f) where
+      module _ (rs1 : List Record) (hs1 : List ℕ) (r_is : rs1 ≡ linked_records (filled rs f q) p.before f) (h_is : hs1 ≡ linked_heads hs j p.before f) where
         appended_view : View rs1 hs1 (at rs f).next (set cs j appended) gs
         unfolding appended
         appended_view =
-            subst₂ (λ qs ks. View qs ks (at rs f).next (set cs j appended) gs) (sym r-is) (sym h-is)
+            subst₂ (λ qs ks. View qs ks (at rs f).next (set cs j appended) gs) (sym r_is) (sym h_is)
             (view_appended rs hs f cs (line rs f) v j out.inside y_free gs (next some).2 (next some).3 (next some).4 q p.before
             (subst (λ es. Ends es p.before) (sym line_front) at_place.last) (ap (naming q.object) line_front ∙ at_place.none))
 

@@ -19,7 +19,7 @@ use Rattle.rules.specs.State.{State, no_input, no_output, input_at, output_at, p
 use Rattle.rules.specs.Steps.{Step, steps, stays, has_room, with_room}
 use Rattle.input_server.specs.Epochs.{has_epoch, have_epochs}
 use Rattle.input_server.specs.Steps.{clock_step, write_step, renewal_step}
-use Rattle.output_server.specs.Steps.{read_step, answerStep, invalidationStep}
+use Rattle.output_server.specs.Steps.{read_step, answer_step, invalidation_step}
 use Rattle.servers.specs.Events.{acknowledgement_step}
 use Rattle.field.specs.Steps.{Taken, after_input, after_output}
 
@@ -54,14 +54,14 @@ read_step_lem : (q : System) (j p o : ℕ) (O : Output) (made : ℕ) (log : List
     → read_step q j p o O made log ≡ steps O (answers_read q j p q.count o O) made log
 read_step_lem q j p o O made log few h = cond-false (ltb 8 q.count) _ _ (le-ltb 8 q.count few) ∙ with_room_lem O made log _ h
 
-answer_step : (drift j i : ℕ) (a : Parts) (o : ℕ) (v : Version) (x : ℕ) (e : Epoch) (stamp : Time) (len : ℕ) (l : Pairs) (O : Output) (made : ℕ) (log : List Message)
+answer_step_lem : (drift j i : ℕ) (a : Parts) (o : ℕ) (v : Version) (x : ℕ) (e : Epoch) (stamp : Time) (len : ℕ) (l : Pairs) (O : Output) (made : ℕ) (log : List Message)
     → made + 9 ≤ length log
-    → answerStep drift j i a o v x e stamp len l O made log ≡ steps (after_answer drift i a o v x e stamp len (list_of l) O) (acknowledgement j i l) made log
-answer_step drift j i a o v x e stamp len l O made log h = with_room_lem O made log _ h
+    → answer_step drift j i a o v x e stamp len l O made log ≡ steps (after_answer drift i a o v x e stamp len (list_of l) O) (acknowledgement j i l) made log
+answer_step_lem drift j i a o v x e stamp len l O made log h = with_room_lem O made log _ h
 
-invalidation_step : (j i o : ℕ) (v : Version) (O : Output) (made : ℕ) (log : List Message) → made + 9 ≤ length log
-    → invalidationStep j i o v O made log ≡ steps (after_invalidation i o v O) (answers_invalidation j i o v) made log
-invalidation_step j i o v O made log h = with_room_lem O made log _ h
+invalidation_step_lem : (j i o : ℕ) (v : Version) (O : Output) (made : ℕ) (log : List Message) → made + 9 ≤ length log
+    → invalidation_step j i o v O made log ≡ steps (after_invalidation i o v O) (answers_invalidation j i o v) made log
+invalidation_step_lem j i o v O made log h = with_room_lem O made log _ h
 
 -- ---- what they leave
 
@@ -168,29 +168,29 @@ read_received q o p j b s t n few h e =
     ∙ output_says j (answers_read q j p q.count b (output_at s j)) s t (read_step q j p b (output_at s j) s.made s.log)
     (read_step_lem q j p b (output_at s j) s.made s.log few h) e
 
-pub invalidation_taken : (j k b : ℕ) (v : Version) (s : State) → Room s → Taken (invalidationStep j k b v (output_at s j) s.made s.log)
+pub invalidation_taken : (j k b : ℕ) (v : Version) (s : State) → Room s → Taken (invalidation_step j k b v (output_at s j) s.made s.log)
 invalidation_taken j k b v s h =
-    taken _ (after_invalidation k b v (output_at s j)) (answers_invalidation j k b v) s.made s.log (invalidation_step j k b v (output_at s j) s.made s.log h)
+    taken _ (after_invalidation k b v (output_at s j)) (answers_invalidation j k b v) s.made s.log (invalidation_step_lem j k b v (output_at s j) s.made s.log h)
 
 pub invalidation_received : (i o : System) (k j b : ℕ) (v : Version) (s t : State) → Room s
-    → t ≡ after_output j (invalidationStep j k b v (output_at s j) s.made s.log) s
+    → t ≡ after_output j (invalidation_step j k b v (output_at s j) s.made s.log) s
     → receives i o (Invalidation k j b v) s ≡ quiet t
 unfolding receives
 invalidation_received i o k j b v s t h e =
-    output_takes j (after_invalidation k b v (output_at s j)) (answers_invalidation j k b v) s t (invalidationStep j k b v (output_at s j) s.made s.log)
-    (invalidation_step j k b v (output_at s j) s.made s.log h) e
+    output_takes j (after_invalidation k b v (output_at s j)) (answers_invalidation j k b v) s t (invalidation_step j k b v (output_at s j) s.made s.log)
+    (invalidation_step_lem j k b v (output_at s j) s.made s.log h) e
 
 pub answer_taken : (j k : ℕ) (a : Parts) (b : ℕ) (v : Version) (x : ℕ) (e : Epoch) (stamp : Time) (len : ℕ) (l : Pairs) (s : State) → Room s
-    → Taken (answerStep s.frame.drift j k a b v x e stamp len l (output_at s j) s.made s.log)
+    → Taken (answer_step s.frame.drift j k a b v x e stamp len l (output_at s j) s.made s.log)
 answer_taken j k a b v x e stamp len l s h =
     taken _ (after_answer s.frame.drift k a b v x e stamp len (list_of l) (output_at s j)) (acknowledgement j k l) s.made s.log
-    (answer_step s.frame.drift j k a b v x e stamp len l (output_at s j) s.made s.log h)
+    (answer_step_lem s.frame.drift j k a b v x e stamp len l (output_at s j) s.made s.log h)
 
 pub answer_received : (i o : System) (k j : ℕ) (a : Parts) (b : ℕ) (v : Version) (x : ℕ) (e : Epoch) (stamp : Time) (len : ℕ) (l : Pairs) (s t : State) → Room s
-    → t ≡ after_output j (answerStep s.frame.drift j k a b v x e stamp len l (output_at s j) s.made s.log) s
+    → t ≡ after_output j (answer_step s.frame.drift j k a b v x e stamp len l (output_at s j) s.made s.log) s
     → receives i o (RenewalAnswer k j a b v x e stamp len l) s ≡ quiet t
 unfolding receives
 answer_received i o k j a b v x e stamp len l s t h f =
     output_takes j (after_answer s.frame.drift k a b v x e stamp len (list_of l) (output_at s j)) (acknowledgement j k l) s t
-    (answerStep s.frame.drift j k a b v x e stamp len l (output_at s j) s.made s.log)
-    (answer_step s.frame.drift j k a b v x e stamp len l (output_at s j) s.made s.log h) f
+    (answer_step s.frame.drift j k a b v x e stamp len l (output_at s j) s.made s.log)
+    (answer_step_lem s.frame.drift j k a b v x e stamp len l (output_at s j) s.made s.log h) f

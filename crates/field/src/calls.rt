@@ -6,7 +6,7 @@
 ghost use Rattle.std.specs.Prelude.{◌≡◌, false, is_ok};
 ghost use Rattle.guarantee.specs.Story.{to_open, to_advance, to_write, to_read, to_deliver};
 ghost use Rattle.rules.specs.Answers.{acceptance, beginning_says, delivery_says};
-ghost use Rattle.rules.specs.Calls.{opening as openingOf, advancing, beginning_write, beginning_read, delivering};
+ghost use Rattle.rules.specs.Calls.{opening as opening_of, advancing, beginning_write, beginning_read, delivering};
 ghost use Rattle.rules.specs.State.{outcome};
 ghost use Rattle.field.specs.Guaranteed.{Guaranteed};
 ghost use Rattle.field.specs.Views.{state_of};
@@ -30,7 +30,7 @@ impl Field {
         opening: Opening,
         clocks: &[Time],
     ) -> Result<(), Refusal>
-        ensures does { openingOf (I.QuorumSystem.meaning inputs.now) (O.QuorumSystem.meaning outputs.now) opening.objects opening.lease opening.drift clocks.now (state_of self.old.interior log.now table.now) ≡ outcome (acceptance result) (state_of self.new.interior log.now table.now) }
+        ensures does { opening_of (I.QuorumSystem.meaning inputs.now) (O.QuorumSystem.meaning outputs.now) opening.objects opening.lease opening.drift clocks.now (state_of self.old.interior log.now table.now) ≡ outcome (acceptance result) (state_of self.new.interior log.now table.now) }
         ensures same { is_ok result ≡ false → self.new ≡ self.old }
         ensures guaranteed { Guaranteed (I.QuorumSystem.meaning inputs.now) (O.QuorumSystem.meaning outputs.now) (to_open opening.objects opening.lease opening.drift clocks.now) (state_of self.old.interior log.now table.now) (acceptance result) (state_of self.new.interior log.now table.now) }
     {

@@ -1,7 +1,7 @@
 // Opening a field.
 ghost use Rattle.std.specs.Prelude.{◌≡◌, ◌≤◌, false, take, drop, is_ok};
 ghost use Rattle.rules.specs.Answers.{acceptance};
-ghost use Rattle.rules.specs.Calls.{opening as openingOf};
+ghost use Rattle.rules.specs.Calls.{opening as opening_of};
 ghost use Rattle.rules.specs.State.{outcome};
 ghost use Rattle.servers.specs.Starting.{first_inputs, first_outputs};
 ghost use Rattle.servers.specs.Views.{inputs_of, outputs_of};
@@ -28,7 +28,7 @@ impl Interior {
         opening: Opening,
         clocks: &[Time],
     ) -> Result<(), Refusal>
-        ensures does { openingOf (I.QuorumSystem.meaning inputs.now) (O.QuorumSystem.meaning outputs.now) opening.objects opening.lease opening.drift clocks.now (state_of self.old log.now table.now) ≡ outcome (acceptance result) (state_of self.new log.now table.now) }
+        ensures does { opening_of (I.QuorumSystem.meaning inputs.now) (O.QuorumSystem.meaning outputs.now) opening.objects opening.lease opening.drift clocks.now (state_of self.old log.now table.now) ≡ outcome (acceptance result) (state_of self.new log.now table.now) }
         ensures same { is_ok result ≡ false → self.new ≡ self.old }
     {
         let n = inputs.count();

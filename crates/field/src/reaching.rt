@@ -16,8 +16,8 @@ impl Interior {
     // The event happens to the input server with that number.
     pub(crate) fn reach_input<E: InputEvent>(&mut self, log: &mut [Message], input: u8, event: E)
         requires inside { input < 8 }
-        requires taken { Taken (happens event input (slice_index_or (inputs_of self.old.inputs) input no_input) self.old.made log.old) }
-        ensures { (t : List Place) → state_of self.new log.new t ≡ after_input input (happens event input (slice_index_or (inputs_of self.old.inputs) input no_input) self.old.made log.old) (state_of self.old log.old t) }
+        requires taken { Taken (E.happens event input (slice_index_or (inputs_of self.old.inputs) input no_input) self.old.made log.old) }
+        ensures { (t : List Place) → state_of self.new log.new t ≡ after_input input (E.happens event input (slice_index_or (inputs_of self.old.inputs) input no_input) self.old.made log.old) (state_of self.old log.old t) }
     {
         match self
             .inputs
@@ -31,8 +31,8 @@ impl Interior {
     // The event happens to the output server with that number.
     pub(crate) fn reach_output<E: OutputEvent>(&mut self, log: &mut [Message], output: u8, event: E)
         requires inside { output < 8 }
-        requires taken { Taken (happens event output (slice_index_or (outputs_of self.old.outputs) output no_output) self.old.made log.old) }
-        ensures { (t : List Place) → state_of self.new log.new t ≡ after_output output (happens event output (slice_index_or (outputs_of self.old.outputs) output no_output) self.old.made log.old) (state_of self.old log.old t) }
+        requires taken { Taken (E.happens event output (slice_index_or (outputs_of self.old.outputs) output no_output) self.old.made log.old) }
+        ensures { (t : List Place) → state_of self.new log.new t ≡ after_output output (E.happens event output (slice_index_or (outputs_of self.old.outputs) output no_output) self.old.made log.old) (state_of self.old log.old t) }
     {
         match self
             .outputs

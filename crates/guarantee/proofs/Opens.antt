@@ -143,7 +143,7 @@ pub record Opened (inputs outputs : System) (s : State) (x : Outcome) : Type 0 w
   pub none_made : x.after.made ≡ 0
   pub none_begun : x.after.begun ≡ 0
 
-module _ (inputs outputs : System) (in-lawful : Lawful inputs) (out-lawful : Lawful outputs) (s : State) where
+module _ (inputs outputs : System) (in_lawful : Lawful inputs) (out_lawful : Lawful outputs) (s : State) where
   open_accepted : (k lease drift : ℕ) (clocks : List Time) → inputs.count ≤ 8 → outputs.count ≤ 8 → k ≤ 16
       → Opened inputs outputs s (outcome accepted (opened inputs.count outputs.count k lease drift clocks s))
   open_accepted k lease drift clocks n m few = record {
@@ -167,7 +167,7 @@ module _ (inputs outputs : System) (in-lawful : Lawful inputs) (out-lawful : Law
       t = opened inputs.count outputs.count k lease drift clocks s
 
       small : Small (params_of inputs outputs t)
-      small = record { n_pos = in-lawful.some; m_pos = out-lawful.some; n_most = n; m_most = m; k_most = few; n_is = refl; m_is = refl }
+      small = record { n_pos = in_lawful.some; m_pos = out_lawful.some; n_most = n; m_most = m; k_most = few; n_is = refl; m_is = refl }
 
       in_time : ℕ → Time
       in_time i = cond (ltb i 8) (start_clock clocks 0 inputs.count i) (record { 0 = 0 })

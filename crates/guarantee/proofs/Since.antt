@@ -99,14 +99,14 @@ settled_grows P W V o w g s = record {
   stand = λ i j b k l. g.stands i j o w k l (s.stand i j b k l);
 }
 
-module _ (P : Params) (small : Small P) (in-lawful : Lawful P.inputs) (out-lawful : Lawful P.outputs) where
+module _ (P : Params) (small : Small P) (in_lawful : Lawful P.inputs) (out_lawful : Lawful P.outputs) where
   pub settles : (W : World) → Kept P W → (a : Act) (p w y : ℕ) → May P a W → (e : WriteEnds P W a p w y) → Settled P (run P a W) e.write.object w
   settles W k a p w y may e = subst (λ (b : Act). May P b W → Settled P (run P b W) e.write.object w) (sym e.act)
       (λ h. record {
         named = (hears_named e.from e.set e.write).named;
         enough = e.written;
         stand = subst (λ (u : ℕ). Named P (run P (hears (WriteAnswer e.from p e.set)) W) e.write.object u (hears_named e.from e.set e.write).named) e.version
-            (named_next P small in-lawful W k e.from p e.set h e.write e.op);
+            (named_next P small in_lawful W k e.from p e.set h e.write e.op);
       }) may
 
   -- an output server that answers has passed every fence of an output server that counts
@@ -114,7 +114,7 @@ module _ (P : Params) (small : Small P) (in-lawful : Lawful P.inputs) (out-lawfu
       → counts P.inputs P.inputs.count N j ≡ true → valid P.inputs P.counts.n o (W.out j) ≡ true → w ≤ (newest_of (W.out j) o).version.0
   answers W k o w N named j l c v =
       let p = and_parts (covers (W.out j) o P.counts.n) (P.inputs.reads (set_of P.counts.n (good (W.out j) o))) v in
-      let x = in-lawful.meet (set_of P.counts.n (good (W.out j) o)) (set_of P.inputs.count (λ i. has (named_by N i) j)) p.1 c in
+      let x = in_lawful.meet (set_of P.counts.n (good (W.out j) o)) (set_of P.inputs.count (λ i. has (named_by N i) j)) p.1 c in
       let g = of_set_of P.counts.n (good (W.out j) o) x.0 x.2 in
       let n = of_set_of P.inputs.count (λ i. has (named_by N i) j) x.0 x.3 in
       let z = pass P.lease (slow P) (view W x.0 j) o w (k.chans x.0 j g.0 l) (named x.0 j n.1 g.0 l).fence
@@ -177,9 +177,9 @@ module _ (P : Params) (small : Small P) (in-lawful : Lawful P.inputs) (out-lawfu
       ends : May P (hears (ReadAnswer e.from q e.pair_version e.pair_value)) W → w ≤ v
       ends h =
           let ok : ReadingOk W q e.read = subst (OpOk P W q) e.op (k.ops q s.begun) in
-          let r = heard_next P small in-lawful W k e.from q e.pair_version e.pair_value h e.read e.op ok in
+          let r = heard_next P small in_lawful W k e.from q e.pair_version e.pair_value h e.read e.op ok in
           let t = since_read q o w N W k (hears (ReadAnswer e.from q e.pair_version e.pair_value)) h s in
-          let x = out-lawful.meet (hears_pair e.from e.pair_version e.pair_value e.read).senders
+          let x = out_lawful.meet (hears_pair e.from e.pair_version e.pair_value e.read).senders
           (set_of P.outputs.count (counts P.inputs P.inputs.count N)) e.complete settled.enough in
           let c = of_set_of P.outputs.count (counts P.inputs P.inputs.count N) x.0 x.3 in
           let u = r.heard x.0 x.2 in
@@ -245,7 +245,7 @@ module _ (P : Params) (small : Small P) (in-lawful : Lawful P.inputs) (out-lawfu
           let f = fits_clock P.counts i e.named e.clock h.1 in
           let h' : In (ClockAnswer i q e.clock) W.sent = subst (λ (p : ℕ). In (ClockAnswer i p e.clock) W.sent) same h.0 in
           let ok : AskingOk W q e.ask = subst (OpOk P W q) (subst (λ (p : ℕ). W.op p ≡ asking e.ask) same e.op) (k.ops q s.begun) in
-          let y = in-lawful.meet (joined e.ask.senders i) (set_of P.inputs.count (λ n. has (named_by N n) j)) e.knows c in
+          let y = in_lawful.meet (joined e.ask.senders i) (set_of P.inputs.count (λ n. has (named_by N n) j)) e.knows c in
           let t = of_set_of P.inputs.count (λ n. has (named_by N n) j) y.0 y.3 in
           let b : y.0 < P.counts.n = let z = small.n_is in let u = y.1 in omega arith in
           let top : w / 65536 ≤ max e.ask.clock e.clock = elim (of_joined e.ask.senders i y.0 (let z = f.sender in let u = small.n_most in omega arith) y.2) [

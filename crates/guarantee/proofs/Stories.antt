@@ -47,7 +47,7 @@ all_from : {A : Type 0} (X : A → Type 0) (l : List A) → ((x : A) → In x l 
 all_from X [] f = tt
 all_from X (x ∷ l) f = (f x (inl refl), all_from X l (λ y h. f y (inr h)))
 
-module _ (S : Story) (in-lawful : Lawful S.inputs) (out-lawful : Lawful S.outputs) (closed : S.start.frame.is_open ≡ false) where
+module _ (S : Story) (in_lawful : Lawful S.inputs) (out_lawful : Lawful S.outputs) (closed : S.start.frame.is_open ≡ false) where
   abbrev calls : ℕ
   calls = length S.calls
 
@@ -64,10 +64,10 @@ module _ (S : Story) (in-lawful : Lawful S.inputs) (out-lawful : Lawful S.output
     pub kept : Kept P (world_of s)
 
   in_of : (P : Params) (s : State) → Live P s → Lawful P.inputs
-  in_of P s l = subst (λ (Q : Params). Lawful Q.inputs) l.params in-lawful
+  in_of P s l = subst (λ (Q : Params). Lawful Q.inputs) l.params in_lawful
 
   out_of : (P : Params) (s : State) → Live P s → Lawful P.outputs
-  out_of P s l = subst (λ (Q : Params). Lawful Q.outputs) l.params out-lawful
+  out_of P s l = subst (λ (Q : Params). Lawful Q.outputs) l.params out_lawful
 
   pub happens : (P : Params) (t : ℕ) → Live P (before S t) → Stepped P (before S t) (act_of (before S t) (call_at S t)) (outcome_at t)
   happens P t l = subst (λ (Q : Params). Stepped Q (before S t) (act_of (before S t) (call_at S t)) (outcome_at t)) l.params
@@ -192,7 +192,7 @@ module _ (S : Story) (in-lawful : Lawful S.inputs) (out-lawful : Lawful S.output
 
   -- ---- one call more
 
-  module _ (P : Params) (t : ℕ) (in-story : t < calls) (l : Live P (before S t)) (T : Traced t (world_of (before S t))) where
+  module _ (P : Params) (t : ℕ) (in_story : t < calls) (l : Live P (before S t)) (T : Traced t (world_of (before S t))) where
     abbrev W : World
     W = world_of (before S t)
 
@@ -225,8 +225,8 @@ module _ (S : Story) (in-lawful : Lawful S.inputs) (out-lawful : Lawful S.output
             → (p : ℕ) → Begun (run P (act_of (before S t) c) W) p → OpTraced (suc t) p ((run P (act_of (before S t) c) W).op p)
         go (to_open k lease drift clocks) e h p b = op_later t p (W.op p) (T.ops p b)
         go (to_advance xs) e h p b = op_later t p (W.op p) (T.ops p b)
-        go (to_write o x) e h p b = first p (asking (first_asking (W.begun + 1) o x)) (t, omega arith, record { made = in-story; call = e; said = h.said }) b
-        go (to_read o) e h p b = first p (reading (first_reading (W.begun + 1) o)) (t, omega arith, record { made = in-story; call = e; said = h.said }) b
+        go (to_write o x) e h p b = first p (asking (first_asking (W.begun + 1) o x)) (t, omega arith, record { made = in_story; call = e; said = h.said }) b
+        go (to_read o) e h p b = first p (reading (first_reading (W.begun + 1) o)) (t, omega arith, record { made = in_story; call = e; said = h.said }) b
         go (to_deliver number) e h p b = heard _ p b
 
     -- a call that logs write requests is a delivery
@@ -258,7 +258,7 @@ module _ (S : Story) (in-lawful : Lawful S.inputs) (out-lawful : Lawful S.output
             t,
             omega arith,
             record {
-              made = in-story;
+              made = in_story;
               number = d.0;
               call = d.1;
               input = i;
@@ -289,7 +289,7 @@ module _ (S : Story) (in-lawful : Lawful S.inputs) (out-lawful : Lawful S.output
           t,
           omega arith,
           record {
-            made = in-story;
+            made = in_story;
             call = asks (call_at S t) o e.0;
             said = h.said ∙ ap (λ (a : Act). says_of P a W) e.0 ∙ ap began (sym e.1);
           },
@@ -321,7 +321,7 @@ module _ (S : Story) (in-lawful : Lawful S.inputs) (out-lawful : Lawful S.output
   pub fine : (t : ℕ) → t ≤ calls → ((before S t).frame.is_open ≡ false) ⊎ Known t
   fine zero h = inl closed
   fine (suc t) h = elim (fine t (omega arith)) [
-    | inl e ↦ elim (closed_step S.inputs S.outputs in-lawful out-lawful (before S t) e (call_at S t)) [
+    | inl e ↦ elim (closed_step S.inputs S.outputs in_lawful out_lawful (before S t) e (call_at S t)) [
       | inl r ↦ inl (ap (λ (s : State). s.frame.is_open) (stayed (before S t) (outcome_at t) r) ∙ e)
       | inr r ↦ inr (record {
         P = params_of S.inputs S.outputs (before S (suc t));
@@ -345,7 +345,7 @@ module _ (S : Story) (in-lawful : Lawful S.inputs) (out-lawful : Lawful S.output
   pub known_at : (t : ℕ) → t < calls → ((n : ℕ) → said_at S t ≡ refused n → ⊥) → (said_at S t ≡ accepted → ⊥) → Known t
   known_at t h no_refusal no-opening = elim (fine t (omega arith)) [
     | inr k ↦ k
-    | inl e ↦ elim (closed_step S.inputs S.outputs in-lawful out-lawful (before S t) e (call_at S t)) [
+    | inl e ↦ elim (closed_step S.inputs S.outputs in_lawful out_lawful (before S t) e (call_at S t)) [
       | inl r ↦ absurd (no_refusal r.0 (ap (λ (x : Outcome). x.said) r.1))
       | inr r ↦ absurd (no-opening r.said)
     ]
@@ -489,7 +489,7 @@ module _ (S : Story) (in-lawful : Lawful S.inputs) (out-lawful : Lawful S.output
       unlogged n e = empty (logged_at S t) (ap (λ (x : Outcome). part (before S t).made x.after.made x.after.log) e ∙ none_logged (before S t).made (before S t).log) g.logged
 
       closed_logs : (before S t).frame.is_open ≡ false → ⊥
-      closed_logs e = elim (closed_step S.inputs S.outputs in-lawful out-lawful (before S t) e (call_at S t)) [
+      closed_logs e = elim (closed_step S.inputs S.outputs in_lawful out_lawful (before S t) e (call_at S t)) [
         | inl r ↦ unlogged r.0 r.1
         | inr r ↦ empty (logged_at S t) (ap (λ (k : ℕ). take (k - (before S t).made) (drop (before S t).made (before S (suc t)).log)) r.none_made
             ∙ (let z : 0 - (before S t).made ≡ 0 = omega arith in ap (λ (k : ℕ). take k (drop (before S t).made (before S (suc t)).log)) z)) g.logged

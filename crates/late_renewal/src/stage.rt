@@ -11,7 +11,7 @@ use rules::{Message, Pairs, Parts};
 use std::io;
 
 // Why a story stops before its end.
-#[derive(Drop)]
+#[derive(Debug, Drop)]
 pub(crate) enum Stop {
     Refused(Refusal),
     Output(io::Error),

@@ -9,17 +9,17 @@ use Rattle.rules.specs.Lists.{pair_at}
 use Rattle.rules.specs.Output.{no_copy, hears}
 
 -- known raised, where the object has a place
-abbrev pub knownRaised : Pair → List Copied → List Copied
-knownRaised p cs = slice_set cs p.object (record {
+abbrev pub known_raised : Pair → List Copied → List Copied
+known_raised p cs = slice_set cs p.object (record {
   got = (slice_index_or cs p.object no_copy).got;
   known = raised (slice_index_or cs p.object no_copy).known p.version;
   epoch = (slice_index_or cs p.object no_copy).epoch;
 })
 
-abbrev pub hearsSome : Option Pair → Link → Link
-hearsSome (Some p) l = hears p l
-hearsSome None l = l
+abbrev pub hears_some : Option Pair → Link → Link
+hears_some (Some p) l = hears p l
+hears_some None l = l
 
 -- the pair at a place, where there is one
-abbrev pub hearsAt : ℕ → Pairs → Link → Link
-hearsAt k list l = hearsSome (pair_at k list) l
+abbrev pub hears_at : ℕ → Pairs → Link → Link
+hears_at k list l = hears_some (pair_at k list) l

@@ -13,8 +13,8 @@ renewed drift r l =
     (hears_all (list_of r.list) l))
 
 -- the copy is accepted, once the list has been heard
-abbrev pub acceptsAfter : Renewal → Link → Bool
-acceptsAfter r l = accepts r.parts r.object.number r.version (hears_all (list_of r.list) l)
+abbrev pub accepts_after : Renewal → Link → Bool
+accepts_after r l = accepts r.parts r.object.number r.version (hears_all (list_of r.list) l)
 
-abbrev pub acceptsRenewal : ℕ → Renewal → Output → Bool
-acceptsRenewal i r O = acceptsAfter r (link O i)
+abbrev pub accepts_renewal : ℕ → Renewal → Output → Bool
+accepts_renewal i r O = accepts_after r (link O i)

@@ -24,11 +24,11 @@ read_step inputs j p o O made log =
     (with_room O made log (steps O (answers_read inputs j p inputs.count o O) made log))
 
 -- renewal answer from input server i
-abbrev pub answerStep : ℕ → ℕ → ℕ → Parts → ℕ → Version → ℕ → Epoch → Time → ℕ → Pairs → Output → ℕ → List Message → Step Output
-answerStep drift j i a o v x e stamp length l O made log =
+abbrev pub answer_step : ℕ → ℕ → ℕ → Parts → ℕ → Version → ℕ → Epoch → Time → ℕ → Pairs → Output → ℕ → List Message → Step Output
+answer_step drift j i a o v x e stamp length l O made log =
     with_room O made log (steps (after_answer drift i a o v x e stamp length (list_of l) O) (acknowledgement j i l) made log)
 
 -- invalidation from input server i
-abbrev pub invalidationStep : ℕ → ℕ → ℕ → Version → Output → ℕ → List Message → Step Output
-invalidationStep j i o v O made log =
+abbrev pub invalidation_step : ℕ → ℕ → ℕ → Version → Output → ℕ → List Message → Step Output
+invalidation_step j i o v O made log =
     with_room O made log (steps (after_invalidation i o v O) (answers_invalidation j i o v) made log)

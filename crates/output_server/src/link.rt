@@ -1,7 +1,7 @@
 // What an output server keeps of one input server: told versions, copies and the lease.
 ghost use Rattle.std.specs.Prelude.{◌≡◌};
 ghost use Rattle.rules.specs.Lists.{list_of};
-ghost use Rattle.output_server.specs.Pairwise.{knownRaised, hearsAt};
+ghost use Rattle.output_server.specs.Pairwise.{known_raised, hears_at};
 ghost use Rattle.rules.specs.Output.{sound_copy, copy_of, hears, hears_all, accepts, takes_copy, takes_lease};
 
 use numbers::{Drift, Epoch, LeaseLength, Moment, ObjectNumber, Version};
@@ -22,7 +22,7 @@ pub(crate) fn hear(link: &mut Link, pair: Pair)
 }
 
 fn raise_known(copies: &mut [Copied], pair: Pair)
-    ensures { copies.new ≡ knownRaised pair copies.old }
+    ensures { copies.new ≡ known_raised pair copies.old }
 {
     let place = pair.object as usize;
     if place < copies.len() {
@@ -42,7 +42,7 @@ pub(crate) fn hear_all(link: &mut Link, list: Pairs)
 
 // The pair at one place of a list.
 fn hear_at(link: &mut Link, list: Pairs, place: u8)
-    ensures { link.new ≡ hearsAt place list link.old }
+    ensures { link.new ≡ hears_at place list link.old }
 {
     if let Some(pair) = list.get(place) {
         hear(link, pair);

@@ -3,7 +3,7 @@ ghost use Rattle.std.specs.Prelude.{◌≡◌, ◌+◌, ◌^◌, ◌<◌, ◌≤
 ghost use Rattle.std.proofs.lemmas.List.Edits.{sets};
 ghost use Rattle.quorum.specs.Sets.{set_of};
 ghost use Rattle.rules.specs.Output.{sound, leased, good, covers, valid, newest_of, link, copy_of, renewal, renewals};
-ghost use Rattle.output_server.specs.Views.{outputOf};
+ghost use Rattle.output_server.specs.Views.{output_of};
 
 use crate::link::is_sound;
 use crate::server::OutputServer;
@@ -20,14 +20,14 @@ impl OutputServer {
         count: ServerCount,
         object: ObjectNumber,
     ) -> bool
-        ensures { result ≡ valid (I.meaning inputs.now) count.count object.number (outputOf self.now) }
+        ensures { result ≡ valid (I.meaning inputs.now) count.count object.number (output_of self.now) }
     {
         self.is_newest(count, object) && inputs.is_read_set(self.good_inputs(count, object))
     }
 
     // Whether the newest version is at least what every input server told of.
     fn is_newest(&self, count: ServerCount, object: ObjectNumber) -> bool
-        ensures { result ≡ covers (outputOf self.now) object.number count.count }
+        ensures { result ≡ covers (output_of self.now) object.number count.count }
     {
         let mut newest = true;
         for input in 0..count.get() {
@@ -38,14 +38,14 @@ impl OutputServer {
 
     fn and_newest_of(&self, newest: bool, input: u8, object: ObjectNumber) -> bool
         requires { input < 8 }
-        ensures { result ≡ (newest && nat_le (copy_of (link (outputOf self.now) input) object.number).known.0 (newest_of (outputOf self.now) object.number).version.0) }
+        ensures { result ≡ (newest && nat_le (copy_of (link (output_of self.now) input) object.number).known.0 (newest_of (output_of self.now) object.number).version.0) }
     {
         let place = object.get() as usize;
         newest && self.links[input as usize].copies[place].known.0 <= self.newest[place].version.0
     }
 
     fn good_inputs(&self, count: ServerCount, object: ObjectNumber) -> MemberSet
-        ensures { result.0 ≡ set_of count.count (good (outputOf self.now) object.number) }
+        ensures { result.0 ≡ set_of count.count (good (output_of self.now) object.number) }
     {
         let mut set = MemberSet::EMPTY;
         for input in 0..count.get() {
@@ -56,7 +56,7 @@ impl OutputServer {
 
     fn with_good(&self, set: MemberSet, input: u8, object: ObjectNumber) -> MemberSet
         requires { input < 8 }
-        ensures { result.0 ≡ (if good (outputOf self.now) object.number input then bit_or set.0 (2 ^ input) else set.0) }
+        ensures { result.0 ≡ (if good (output_of self.now) object.number input then bit_or set.0 (2 ^ input) else set.0) }
     {
         if self.is_good(input, object) {
             set.with(input)
@@ -67,14 +67,14 @@ impl OutputServer {
 
     fn is_good(&self, input: u8, object: ObjectNumber) -> bool
         requires { input < 8 }
-        ensures { result ≡ good (outputOf self.now) object.number input }
+        ensures { result ≡ good (output_of self.now) object.number input }
     {
         self.has_sound(input, object) && self.is_leased(input)
     }
 
     fn has_sound(&self, input: u8, object: ObjectNumber) -> bool
         requires { input < 8 }
-        ensures { result ≡ sound (outputOf self.now) object.number input }
+        ensures { result ≡ sound (output_of self.now) object.number input }
     {
         let place = object.get() as usize;
         is_sound(
@@ -85,7 +85,7 @@ impl OutputServer {
 
     fn is_leased(&self, input: u8) -> bool
         requires { input < 8 }
-        ensures { result ≡ leased (outputOf self.now) input }
+        ensures { result ≡ leased (output_of self.now) input }
     {
         self.links[input as usize]
             .until
@@ -103,8 +103,8 @@ impl OutputServer {
         made: usize,
     ) -> usize
         requires { made + 9 ≤ length log.old }
-        ensures says { result ≡ made + length (renewals me.number count.count object.number (outputOf self.now)) }
-        ensures after { log.new ≡ sets log.old made (renewals me.number count.count object.number (outputOf self.now)) }
+        ensures says { result ≡ made + length (renewals me.number count.count object.number (output_of self.now)) }
+        ensures after { log.new ≡ sets log.old made (renewals me.number count.count object.number (output_of self.now)) }
     {
         let mut next = made;
         for input in 0..count.get() {
@@ -123,8 +123,8 @@ impl OutputServer {
         made: usize,
     ) -> usize
         requires { (input < 8) × (made < length log.old) }
-        ensures says { result ≡ made + length (renewal me.number object.number (outputOf self.now) input) }
-        ensures after { log.new ≡ sets log.old made (renewal me.number object.number (outputOf self.now) input) }
+        ensures says { result ≡ made + length (renewal me.number object.number (output_of self.now) input) }
+        ensures after { log.new ≡ sets log.old made (renewal me.number object.number (output_of self.now) input) }
     {
         if self.is_good(input, object) {
             return made;

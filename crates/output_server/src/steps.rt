@@ -5,8 +5,8 @@ ghost use Rattle.std.specs.Prelude.{◌≡◌, false, is_ok};
 ghost use Rattle.rules.specs.Answers.{acceptance};
 ghost use Rattle.rules.specs.Output.{first_output};
 ghost use Rattle.rules.specs.Steps.{step};
-ghost use Rattle.output_server.specs.Steps.{ticking, read_step, answerStep, invalidationStep};
-ghost use Rattle.output_server.specs.Views.{outputOf};
+ghost use Rattle.output_server.specs.Steps.{ticking, read_step, answer_step, invalidation_step};
+ghost use Rattle.output_server.specs.Views.{output_of};
 
 use crate::renewal::Renewal;
 use crate::server::OutputServer;
@@ -20,7 +20,7 @@ use rules::{Copied, Link, Message, Newest, has_room};
 impl OutputServer {
     // A server that was given nothing yet.
     pub fn new(clock: Moment) -> OutputServer
-        ensures { outputOf result ≡ first_output (record { 0 = clock.micros }) }
+        ensures { output_of result ≡ first_output (record { 0 = clock.micros }) }
     {
         let copied = Copied {
             got: Version::NONE,
@@ -44,14 +44,14 @@ impl OutputServer {
     }
 
     pub fn clock(&self) -> Time
-        ensures { result ≡ (outputOf self.now).clock }
+        ensures { result ≡ (output_of self.now).clock }
     {
         self.clock.time()
     }
 
     // Time passes. A clock that would pass the last time stays.
     pub fn tick(&mut self, increment: u64) -> Result<(), Refusal>
-        ensures does { ticking increment (outputOf self.old) ≡ (acceptance result, outputOf self.new) }
+        ensures does { ticking increment (output_of self.old) ≡ (acceptance result, output_of self.new) }
         ensures same { is_ok result ≡ false → self.new ≡ self.old }
     {
         match self.clock.later(increment) {
@@ -72,7 +72,7 @@ impl OutputServer {
         log: &mut [Message],
         made: usize,
     ) -> Result<usize, Refusal>
-        ensures does { read_step (I.meaning inputs.now) me.number operation object.number (outputOf self.now) made log.old ≡ step result (outputOf self.now) log.new }
+        ensures does { read_step (I.meaning inputs.now) me.number operation object.number (output_of self.now) made log.old ≡ step result (output_of self.now) log.new }
         ensures same { is_ok result ≡ false → log.new ≡ log.old }
     {
         let Some(count) = ServerCount::new(inputs.count()) else {
@@ -104,7 +104,7 @@ impl OutputServer {
         log: &mut [Message],
         made: usize,
     ) -> Result<usize, Refusal>
-        ensures does { invalidationStep me.number input.number object.number version (outputOf self.old) made log.old ≡ step result (outputOf self.new) log.new }
+        ensures does { invalidation_step me.number input.number object.number version (output_of self.old) made log.old ≡ step result (output_of self.new) log.new }
         ensures same { is_ok result ≡ false → (self.new ≡ self.old) × (log.new ≡ log.old) }
     {
         if !has_room(log, made) {
@@ -127,7 +127,7 @@ impl OutputServer {
         log: &mut [Message],
         made: usize,
     ) -> Result<usize, Refusal>
-        ensures does { answerStep drift.thousandths me.number input.number renewal.now.parts renewal.now.object.number renewal.now.version renewal.now.value renewal.now.epoch (record { 0 = renewal.now.stamp.micros }) renewal.now.length.micros renewal.now.list (outputOf self.old) made log.old ≡ step result (outputOf self.new) log.new }
+        ensures does { answer_step drift.thousandths me.number input.number renewal.now.parts renewal.now.object.number renewal.now.version renewal.now.value renewal.now.epoch (record { 0 = renewal.now.stamp.micros }) renewal.now.length.micros renewal.now.list (output_of self.old) made log.old ≡ step result (output_of self.new) log.new }
         ensures same { is_ok result ≡ false → (self.new ≡ self.old) × (log.new ≡ log.old) }
     {
         if !has_room(log, made) {

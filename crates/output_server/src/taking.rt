@@ -3,8 +3,8 @@ ghost use Rattle.std.specs.Prelude.{◌≡◌, ◌+◌, ◌<◌, [], ◌∷◌, 
 ghost use Rattle.std.proofs.lemmas.List.Edits.{sets};
 ghost use Rattle.rules.specs.Lists.{pairs};
 ghost use Rattle.rules.specs.Output.{link, hears, acknowledgement};
-ghost use Rattle.output_server.specs.Renewing.{renewed, acceptsAfter, acceptsRenewal};
-ghost use Rattle.output_server.specs.Views.{outputOf, withLink, withNewest};
+ghost use Rattle.output_server.specs.Renewing.{renewed, accepts_after, accepts_renewal};
+ghost use Rattle.output_server.specs.Views.{output_of, with_link, with_newest};
 
 use crate::link::{hear, hear_all, take_copy, take_lease};
 use crate::renewal::Renewal;
@@ -15,7 +15,7 @@ use rules::{Link, Message, Newest, Pair, Pairs};
 impl OutputServer {
     // An input server told of a version.
     pub(crate) fn hear_from(&mut self, input: InputNumber, pair: Pair)
-        ensures { outputOf self.new ≡ withLink input.number (hears pair (link (outputOf self.old) input.number)) (outputOf self.old) }
+        ensures { output_of self.new ≡ with_link input.number (hears pair (link (output_of self.old) input.number)) (output_of self.old) }
     {
         let place = input.get() as usize;
         hear(&mut self.links[place], pair);
@@ -24,8 +24,8 @@ impl OutputServer {
     // A renewal answer changes what is kept of its sender: what its list tells of, its copy, its
     // lease. Says whether the copy was accepted.
     pub(crate) fn renew_link(&mut self, input: InputNumber, renewal: &Renewal, drift: Drift) -> bool
-        ensures says { result ≡ acceptsRenewal input.number renewal.now (outputOf self.old) }
-        ensures after { outputOf self.new ≡ withLink input.number (renewed drift.thousandths renewal.now (link (outputOf self.old) input.number)) (outputOf self.old) }
+        ensures says { result ≡ accepts_renewal input.number renewal.now (output_of self.old) }
+        ensures after { output_of self.new ≡ with_link input.number (renewed drift.thousandths renewal.now (link (output_of self.old) input.number)) (output_of self.old) }
     {
         let place = input.get() as usize;
         renew(&mut self.links[place], renewal, drift)
@@ -39,7 +39,7 @@ impl OutputServer {
         version: Version,
         value: u64,
     )
-        ensures { outputOf self.new ≡ withNewest accepted object.number version value (outputOf self.old) }
+        ensures { output_of self.new ≡ with_newest accepted object.number version value (output_of self.old) }
     {
         let place = object.get() as usize;
         if accepted && version.is_above(self.newest[place].version) {
@@ -50,7 +50,7 @@ impl OutputServer {
 
 // The list first, then the copy, then the lease.
 fn renew(link: &mut Link, renewal: &Renewal, drift: Drift) -> bool
-    ensures says { result ≡ acceptsAfter renewal.now link.old }
+    ensures says { result ≡ accepts_after renewal.now link.old }
     ensures after { link.new ≡ renewed drift.thousandths renewal.now link.old }
 {
     hear_all(link, renewal.list);

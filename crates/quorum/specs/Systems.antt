@@ -9,13 +9,13 @@ pub record System : Type 0 where
   pub writes : ℕ → Bool
 
 -- what is asked of one family of sets over n members
-pub record Family (n : ℕ) (in-family : ℕ → Bool) : Type 0 where
+pub record Family (n : ℕ) (in_family : ℕ → Bool) : Type 0 where
   -- all members together are in it
-  pub all : in-family (full n) ≡ true
+  pub all : in_family (full n) ≡ true
   -- a set with a number outside the members is not
-  pub inside : (s : ℕ) → in-family s ≡ true → s < 2 ^ n
+  pub inside : (s : ℕ) → in_family s ≡ true → s < 2 ^ n
   -- a set of members that contains a set of it is in it too
-  pub upward : (s t : ℕ) → in-family s ≡ true → Within s t → t < 2 ^ n → in-family t ≡ true
+  pub upward : (s t : ℕ) → in_family s ≡ true → Within s t → t < 2 ^ n → in_family t ≡ true
 
 pub record Lawful (q : System) : Type 0 where
   pub some : 1 ≤ q.count

@@ -1,7 +1,7 @@
 -- The servers of a field as the rules speak of them.
 use Rattle.std.specs.Prelude.{List, [], ◌∷◌, map}
 use Rattle.input_server.specs.Views.{input_of}
-use Rattle.output_server.specs.Views.{outputOf}
+use Rattle.output_server.specs.Views.{output_of}
 use Rattle.rules.specs.Input.{Input}
 use Rattle.rules.specs.Output.{Output}
 use Rattle.servers.specs.declared.inputs.InputServers.{InputServers}
@@ -20,4 +20,4 @@ inputs_of s =
     ∷ [])))))))
 
 abbrev pub outputs_of : OutputServers → List Output
-outputs_of s = map outputOf s.servers
+outputs_of s = map output_of s.servers

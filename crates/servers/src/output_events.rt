@@ -1,8 +1,8 @@
 // What can happen to an output server: one of the three kinds of message that it is sent, or that
 // time passes.
 ghost use Rattle.std.specs.Prelude.{◌≡◌, ℕ, List};
-ghost use Rattle.output_server.specs.Steps.{read_step, answerStep, invalidationStep};
-ghost use Rattle.output_server.specs.Views.{outputOf};
+ghost use Rattle.output_server.specs.Steps.{read_step, answer_step, invalidation_step};
+ghost use Rattle.output_server.specs.Views.{output_of};
 ghost use Rattle.rules.specs.declared.message.Message.{Message as AnyMessage};
 ghost use Rattle.rules.specs.Output.{Output};
 ghost use Rattle.rules.specs.Steps.{Step, step_says};
@@ -26,9 +26,9 @@ pub trait OutputEvent {
         log: &mut [Message],
         made: usize,
     ) -> Result<usize, Refusal>
-        ensures says { step_says result ≡ (happens self me.number (outputOf server.old) made log.old).said }
-        ensures server { outputOf server.new ≡ (happens self me.number (outputOf server.old) made log.old).server }
-        ensures log { log.new ≡ (happens self me.number (outputOf server.old) made log.old).log };
+        ensures says { step_says result ≡ (happens self me.number (output_of server.old) made log.old).said }
+        ensures server { output_of server.new ≡ (happens self me.number (output_of server.old) made log.old).server }
+        ensures log { log.new ≡ (happens self me.number (output_of server.old) made log.old).log };
 }
 
 #[derive(Drop)]
@@ -60,7 +60,7 @@ pub struct RenewalAnswer {
 }
 
 impl OutputEvent for RenewalAnswer {
-    ghost happens = { λ e j O made log. answerStep e.drift.thousandths j e.input.number e.renewal.parts e.renewal.object.number e.renewal.version e.renewal.value e.renewal.epoch (record { 0 = e.renewal.stamp.micros }) e.renewal.length.micros e.renewal.list O made log };
+    ghost happens = { λ e j O made log. answer_step e.drift.thousandths j e.input.number e.renewal.parts e.renewal.object.number e.renewal.version e.renewal.value e.renewal.epoch (record { 0 = e.renewal.stamp.micros }) e.renewal.length.micros e.renewal.list O made log };
 
     fn happen(
         self,
@@ -81,7 +81,7 @@ pub struct Invalidation {
 }
 
 impl OutputEvent for Invalidation {
-    ghost happens = { λ e j O made log. invalidationStep j e.input.number e.object.number e.version O made log };
+    ghost happens = { λ e j O made log. invalidation_step j e.input.number e.object.number e.version O made log };
 
     fn happen(
         self,

@@ -37,9 +37,9 @@ impl InputServers {
         log: &mut [Message],
         made: usize,
     ) -> Result<usize, Refusal>
-        ensures says { step_says result ≡ (happens event input.number (slice_index_or (inputs_of self.old) input.number no_input) made log.old).said }
-        ensures servers { inputs_of self.new ≡ slice_set (inputs_of self.old) input.number (happens event input.number (slice_index_or (inputs_of self.old) input.number no_input) made log.old).server }
-        ensures log { log.new ≡ (happens event input.number (slice_index_or (inputs_of self.old) input.number no_input) made log.old).log }
+        ensures says { step_says result ≡ (E.happens event input.number (slice_index_or (inputs_of self.old) input.number no_input) made log.old).said }
+        ensures servers { inputs_of self.new ≡ slice_set (inputs_of self.old) input.number (E.happens event input.number (slice_index_or (inputs_of self.old) input.number no_input) made log.old).server }
+        ensures log { log.new ≡ (E.happens event input.number (slice_index_or (inputs_of self.old) input.number no_input) made log.old).log }
     {
         match input.get() {
             0 => event.happen(input, &mut self.input0, log, made),

@@ -1,6 +1,6 @@
 // An output server is picked by its number.
 ghost use Rattle.std.specs.Prelude.{◌≡◌, ◌<◌, slice_index_or, slice_set};
-ghost use Rattle.output_server.specs.Views.{outputOf};
+ghost use Rattle.output_server.specs.Views.{output_of};
 ghost use Rattle.rules.specs.State.{no_output};
 ghost use Rattle.rules.specs.Steps.{step_says};
 ghost use Rattle.servers.specs.Views.{outputs_of};
@@ -15,7 +15,7 @@ use rules::Message;
 impl OutputServers {
     // The output server with that number, to look at.
     pub fn get(&self, output: OutputNumber) -> &OutputServer
-        ensures { outputOf result.now ≡ slice_index_or (outputs_of self.now) output.number no_output }
+        ensures { output_of result.now ≡ slice_index_or (outputs_of self.now) output.number no_output }
     {
         &self.servers[place(output)]
     }
@@ -28,9 +28,9 @@ impl OutputServers {
         log: &mut [Message],
         made: usize,
     ) -> Result<usize, Refusal>
-        ensures says { step_says result ≡ (happens event output.number (slice_index_or (outputs_of self.old) output.number no_output) made log.old).said }
-        ensures servers { outputs_of self.new ≡ slice_set (outputs_of self.old) output.number (happens event output.number (slice_index_or (outputs_of self.old) output.number no_output) made log.old).server }
-        ensures log { log.new ≡ (happens event output.number (slice_index_or (outputs_of self.old) output.number no_output) made log.old).log }
+        ensures says { step_says result ≡ (E.happens event output.number (slice_index_or (outputs_of self.old) output.number no_output) made log.old).said }
+        ensures servers { outputs_of self.new ≡ slice_set (outputs_of self.old) output.number (E.happens event output.number (slice_index_or (outputs_of self.old) output.number no_output) made log.old).server }
+        ensures log { log.new ≡ (E.happens event output.number (slice_index_or (outputs_of self.old) output.number no_output) made log.old).log }
     {
         event.happen(output, &mut self.servers[place(output)], log, made)
     }

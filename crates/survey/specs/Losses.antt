@@ -26,10 +26,10 @@ Left n lost s = Of (n - lost) n s
 -- Whether what is left is in the family: whichever members are lost, for some losses and not for others, or for none.
 -- The first n - lost members are a set that can be left, so no two of the three hold at once.
 abbrev pub FindsAfter : (ℕ → Bool) → ℕ → ℕ → Finds → Type 0
-FindsAfter in-family n lost Always = (s : ℕ) → Left n lost s → in-family s ≡ true
-FindsAfter in-family n lost Sometimes =
-    ((s : ℕ) × Left n lost s × (in-family s ≡ true)) × ((s : ℕ) × Left n lost s × (in-family s ≡ false))
-FindsAfter in-family n lost Never = (s : ℕ) → Left n lost s → in-family s ≡ false
+FindsAfter in_family n lost Always = (s : ℕ) → Left n lost s → in_family s ≡ true
+FindsAfter in_family n lost Sometimes =
+    ((s : ℕ) × Left n lost s × (in_family s ≡ true)) × ((s : ℕ) × Left n lost s × (in_family s ≡ false))
+FindsAfter in_family n lost Never = (s : ℕ) → Left n lost s → in_family s ≡ false
 
 -- the most members whose sets are all gone over
 abbrev pub limit : ℕ
@@ -42,6 +42,6 @@ Surveyed q P (Err e) = (limit < q.count) × (number_of e ≡ 2)
 
 -- the lowest set of k of n members that is in the family or, where `wanted` is false, is not
 abbrev pub First : (ℕ → Bool) → Bool → ℕ → ℕ → Option MemberSet → Type 0
-First in-family wanted k n None = (s : ℕ) → Of k n s → in-family s ≢ wanted
-First in-family wanted k n (Some s) =
-    Of k n s.0 × (in-family s.0 ≡ wanted) × ((t : ℕ) → t < s.0 → count_ones t ≡ k → in-family t ≢ wanted)
+First in_family wanted k n None = (s : ℕ) → Of k n s → in_family s ≢ wanted
+First in_family wanted k n (Some s) =
+    Of k n s.0 × (in_family s.0 ≡ wanted) × ((t : ℕ) → t < s.0 → count_ones t ≡ k → in_family t ≢ wanted)

@@ -1,5 +1,5 @@
 use Rattle.std.proofs.Common.{◌<◌, length, rules}
-use Rattle.output_server.specs.Views.{outputOf}
+use Rattle.output_server.specs.Views.{output_of}
 use Rattle.rules.specs.State.{no_output}
 use Rattle.servers.proofs.Picks.{picked}
 use Rattle.servers.proofs.outputs.OutputServers.get.Goals as goal
@@ -7,4 +7,4 @@ use Rattle.servers.proofs.outputs.OutputServers.get.Goals as goal
 pub returns : goal.returns
 returns c =
     let h : c.args.output.number < length c.args.self.now.servers = search rules in
-    picked outputOf c.args.self.now.servers c.args.output.number c.place.result c.index-self-place.result no_output c.place.ensures.is h
+    picked output_of c.args.self.now.servers c.args.output.number c.place.result c.index-self-place.result no_output c.place.ensures.is h
