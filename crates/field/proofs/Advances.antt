@@ -1,19 +1,18 @@
 -- Advancing: what its tests say, and what it leaves.
-use Rattle.std.proofs.Common.{◌≡◌, ℕ, zero, suc, ◌+◌, ◌<◌, ◌≤◌, Bool, true, false, cond, not, ◌&&◌, eqb, leb, ◌≢◌, List, [], length, get_or, set, sym, refl, ap, ◌∙◌, subst, add-one, arith}
+use Rattle.std.proofs.Common.{◌≡◌, ℕ, zero, suc, ◌+◌, ◌<◌, ◌≤◌, Bool, true, false, cond, not, ◌&&◌, eqb, leb, List, [], length, get_or, set, sym, refl, ap, ◌∙◌, subst, add-one, arith}
 use Rattle.std.proofs.lemmas.List.{get_or-set_other}
 use Rattle.std.proofs.lemmas.Bool.{and_parts, cond-true, not-false, eqb-true, eqb-false}
 use Rattle.quorum.specs.declared.refusal.Refusal.{Refusal}
 use Rattle.quorum.specs.Refusals.{number_of}
 use Rattle.quorum.specs.Systems.{System}
 use Rattle.numbers.specs.Numbers.{last_time}
-use Rattle.rules.specs.declared.message.Message.{Message}
 use Rattle.rules.specs.Calls.{inputs_stay, outputs_stay, keeps_drift, later_inputs, later_outputs, advanced, advancing}
 use Rattle.rules.specs.Input.{Input, later_input}
 use Rattle.rules.specs.Output.{Output, later_output}
 use Rattle.guarantee.proofs.CallSteps.{inputs_only}
 use Rattle.rules.specs.State.{Frame, State, accepted, Outcome, outcome, refuse, no_input, no_output, input_at, output_at, with_input, with_output}
-use Rattle.rules.specs.Steps.{Step, StepSaid, made_now, refused}
-use Rattle.servers.specs.Events.{input_tick, output_tick, quietly}
+use Rattle.rules.specs.Steps.{Step, made_now, refused}
+use Rattle.servers.specs.Events.{input_tick, output_tick}
 use Rattle.field.specs.Checked.{advance_check}
 use Rattle.field.proofs.Calling.{later_tests, later_passed}
 use Rattle.field.proofs.Refusing.{decide, refuses_first, passes_first, call_refuses, call_passes}

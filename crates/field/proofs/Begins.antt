@@ -1,5 +1,5 @@
 -- Beginning: what its tests say, and what it leaves.
-use Rattle.std.proofs.Common.{◌≡◌, ℕ, ◌+◌, ◌<◌, ◌≤◌, Bool, true, false, not, leb, List, [], ◌∷◌, map, length, set, sym, refl, ap, ◌∙◌, arith}
+use Rattle.std.proofs.Common.{◌≡◌, ℕ, ◌+◌, ◌<◌, ◌≤◌, Bool, not, leb, List, [], ◌∷◌, map, length, set, sym, refl, ap, ◌∙◌, arith}
 use Rattle.std.proofs.lemmas.List.{length-map, map-set}
 use Rattle.std.proofs.lemmas.Bool.{not-false, leb-false, leb-true}
 use Rattle.quorum.specs.declared.refusal.Refusal.{Refusal}
@@ -11,7 +11,7 @@ use Rattle.rules.specs.Calls.{has_nine, enter, beginning, beginning_write, begin
 use Rattle.rules.specs.Lists.{each}
 use Rattle.rules.specs.Operation as Rules
 use Rattle.rules.specs.Operation.{asking, reading, first_asking, first_reading, clock_questions, read_requests}
-use Rattle.rules.specs.State.{State, began, Outcome, outcome, refuse, post}
+use Rattle.rules.specs.State.{State, began, outcome, refuse, post}
 use Rattle.operation.specs.declared.table.Operation.{Operation}
 use Rattle.operation.specs.States.{operation_of}
 use Rattle.servers.specs.Views.{inputs_of, outputs_of}
@@ -20,9 +20,9 @@ use Rattle.field.specs.Checked.{beginning_check}
 use Rattle.checks.specs.Refused.{beginning_refusal}
 use Rattle.field.specs.Sound.{Sound}
 use Rattle.field.specs.Views.{frame_of, state_of}
-use Rattle.field.proofs.Calling.{Lent, lent_of, later_tests, later_passed}
+use Rattle.field.proofs.Calling.{lent_of, later_tests, later_passed}
 use Rattle.field.proofs.Refusing.{decide, refuses_first, passes_first, call_refuses, call_passes}
-use Rattle.field.proofs.Sounds.{Numbers, numbers_of}
+use Rattle.field.proofs.Sounds.{numbers_of}
 
 -- ---- the tests
 

@@ -1,21 +1,19 @@
 -- The calls of an open field: what their tests say of the rules' own calls, and what is known where the tests pass.
-use Rattle.std.proofs.Common.{◌≡◌, ℕ, ◌+◌, ◌-◌, ◌≤◌, Bool, true, false, cond, not, ◌&&◌, ◌||◌, eqb, ltb, leb, List, map, length, sym, refl, ap, ◌∙◌, arith}
+use Rattle.std.proofs.Common.{◌≡◌, ℕ, ◌+◌, ◌≤◌, Bool, true, false, cond, not, ◌||◌, eqb, ltb, List, map, length, sym, refl, ap, ◌∙◌, arith}
 use Rattle.std.proofs.lemmas.List.{length-map}
-use Rattle.std.proofs.lemmas.Bool.{cond_both, cond-true, cond-false, and_parts, or_parts, not-false, eqb-true, eqb-false, ltb-false, leb-true}
+use Rattle.std.proofs.lemmas.Bool.{and_parts, or_parts, not-false, eqb-true, eqb-false, ltb-false, leb-true}
 use Rattle.quorum.specs.declared.refusal.Refusal.{Refusal}
 use Rattle.quorum.specs.Refusals.{number_of}
 use Rattle.quorum.specs.Systems.{System}
-use Rattle.rules.specs.declared.delivery.Delivery.{Delivery}
 use Rattle.rules.specs.declared.message.Message.{Message}
-use Rattle.rules.specs.Answers.{end_of}
 use Rattle.rules.specs.Calls.{as_opened, when_open, has_nine, in_range, message_at, receives, delivering}
-use Rattle.rules.specs.State.{State, Outcome, outcome, refuse}
+use Rattle.rules.specs.State.{State, Outcome, refuse}
 use Rattle.operation.specs.declared.table.Operation.{Operation}
 use Rattle.operation.specs.States.{operation_of}
 use Rattle.field.specs.declared.interior.Interior.{Interior}
 use Rattle.field.specs.Checked.{delivery_check}
 use Rattle.field.specs.Delivered.{numbered, Deliverable}
-use Rattle.checks.specs.Refused.{lent_as_opened, later_refusal, delivering_refusal}
+use Rattle.checks.specs.Refused.{lent_as_opened, later_refusal}
 use Rattle.field.specs.Sound.{Sound}
 use Rattle.field.specs.Views.{frame_of, state_of}
 use Rattle.field.proofs.Refusing.{decide, refuses_first, refuses_else, passes_first, passes_else, call_refuses, call_passes}

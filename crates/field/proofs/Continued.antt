@@ -1,11 +1,11 @@
 -- One call more at the end of a story.
-use Rattle.std.proofs.Common.{◌≡◌, ℕ, zero, suc, ◌+◌, ◌<◌, ◌≤◌, false, List, [], ◌∷◌, ◌++◌, length, get_or, sym, refl, ap, ◌∙◌, subst, arith, length-append}
+use Rattle.std.proofs.Common.{◌≡◌, ℕ, zero, suc, ◌<◌, ◌≤◌, [], ◌∷◌, ◌++◌, length, sym, refl, ap, ◌∙◌, subst, arith, length-append}
 use Rattle.std.proofs.lemmas.List.{get_or_append_left, get_or_push}
 use Rattle.quorum.specs.Systems.{System, Lawful}
 use Rattle.rules.specs.State.{State, Said, Outcome, outcome}
 use Rattle.guarantee.proofs.Endings.{operations_end_when_complete}
 use Rattle.guarantee.proofs.Stories.{every_story}
-use Rattle.guarantee.specs.Story.{Call, to_deliver, outcome_of, Story, call_at, before, said_at}
+use Rattle.guarantee.specs.Story.{Call, to_deliver, outcome_of, Story, call_at, before}
 use Rattle.field.specs.Guaranteed.{then, LeadsTo, Continues, Guaranteed}
 
 -- the calls before the last are those of the story

@@ -3,7 +3,6 @@ use Rattle.std.proofs.Common.{◌≡◌}
 use mathlib.Core.HLevel.{is_prop→PathP}
 use mathlib.Core.Logic.{∥∥₁_prop}
 use Rattle.field.specs.declared.field.Field.{Field}
-use Rattle.field.specs.declared.interior.Interior.{Interior}
 use Rattle.field.specs.Sound.{Sound}
 
 pub same_field : (f g : Field) → f.interior ≡ g.interior → f ≡ g

@@ -1,9 +1,9 @@
 -- A state that does not refuse a message takes it.
-use Rattle.std.proofs.Common.{◌≡◌, ℕ, zero, suc, Bool, true, false, cond, eqb, sym, refl, ap, ◌∙◌, subst, arith}
+use Rattle.std.proofs.Common.{◌≡◌, ℕ, Bool, true, false, cond, eqb, sym, refl, ap, ◌∙◌, arith}
 use Rattle.quorum.specs.Systems.{System}
 use Rattle.rules.specs.declared.message.Message.{Message}
 use Rattle.rules.specs.declared.message.Message.TheVariants.{ClockQuestion, ClockAnswer, WriteRequest, WriteAnswer, ReadRequest, ReadAnswer, RenewalRequest, RenewalAnswer, Invalidation, InvalidationAnswer}
-use Rattle.rules.specs.Operation.{Asking, asking, Sending, sending, Reading, reading, hears_clock, knows_clock, gets_version, hears_pair, is_read}
+use Rattle.rules.specs.Operation.{Asking, asking, Reading, reading, hears_clock, knows_clock, gets_version, hears_pair, is_read}
 use Rattle.operation.specs.Alone.{AskingSaid, asks_on, now_sends, asking_refused, asks_next, asks_after, asking_alone, ReadingSaid, reads_on, read_ends, reading_refused, reads_next, reads_after, reading_alone}
 use Rattle.field.specs.Heard.{Accepts}
 

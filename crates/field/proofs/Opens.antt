@@ -1,17 +1,17 @@
 -- Opening: what its tests say, and what it leaves.
-use Rattle.std.proofs.Common.{◌≡◌, ℕ, zero, suc, ◌+◌, ◌<◌, ◌≤◌, Bool, true, false, cond, not, ◌&&◌, ◌||◌, eqb, ltb, leb, List, [], ◌∷◌, map, length, get_or, take, drop, sym, refl, ap, ◌∙◌, zero-add, arith}
+use Rattle.std.proofs.Common.{◌≡◌, ℕ, zero, suc, ◌+◌, ◌<◌, ◌≤◌, Bool, true, not, ◌&&◌, ◌||◌, eqb, ltb, leb, List, [], ◌∷◌, map, length, get_or, take, drop, sym, refl, ap, ◌∙◌, zero-add, arith}
 use Rattle.std.proofs.lemmas.List.{get_or-take, get_or-drop, get_or_past, length-take-le, length-map}
-use Rattle.std.proofs.lemmas.Bool.{cond_both, cond-true, cond-false, and_parts, or_parts, not-false, eqb-true, ltb-false, leb-true, ltb-true}
+use Rattle.std.proofs.lemmas.Bool.{cond_both, cond-true, and_parts, or_parts, not-false, eqb-true, ltb-false, leb-true, ltb-true}
 use Rattle.quorum.specs.declared.refusal.Refusal.{Refusal}
 use Rattle.quorum.specs.Refusals.{number_of}
 use Rattle.quorum.specs.Systems.{System}
 use Rattle.numbers.specs.declared.time.Time.{Time}
 use Rattle.numbers.specs.Numbers.{between, last_time, longest}
 use Rattle.rules.specs.Calls.{start_clock, opened, clocks_fit, opening}
-use Rattle.rules.specs.Input.{Input, first_input}
+use Rattle.rules.specs.Input.{first_input}
 use Rattle.rules.specs.Lists.{each}
-use Rattle.rules.specs.Output.{Output, first_output}
-use Rattle.rules.specs.State.{State, accepted, Outcome, outcome, refuse}
+use Rattle.rules.specs.Output.{first_output}
+use Rattle.rules.specs.State.{State, accepted, outcome, refuse}
 use Rattle.operation.specs.declared.table.Operation.{Operation}
 use Rattle.operation.specs.States.{operation_of}
 use Rattle.rules.specs.declared.message.Message.{Message}

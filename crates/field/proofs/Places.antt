@@ -1,7 +1,7 @@
 -- One place of the table: what is there, and what an answer leaves there.
-use Rattle.std.proofs.Common.{◌≡◌, ℕ, ◌+◌, ◌-◌, ◌<◌, ◌≤◌, Bool, true, false, cond, ◌&&◌, eqb, List, [], ◌∷◌, map, length, get_or, set, sym, refl, ap, ◌∙◌, subst, arith}
+use Rattle.std.proofs.Common.{◌≡◌, ℕ, ◌-◌, ◌≤◌, true, false, cond, eqb, List, [], map, length, get_or, set, sym, refl, ap, ◌∙◌, arith}
 use Rattle.std.proofs.lemmas.List.{get_or-map, map-set, set-set, set-get_or}
-use Rattle.std.proofs.lemmas.Bool.{cond_both, and_parts, eqb-true}
+use Rattle.std.proofs.lemmas.Bool.{and_parts, eqb-true}
 use Rattle.quorum.specs.declared.member_set.MemberSet.{MemberSet}
 use Rattle.quorum.specs.Systems.{System}
 use Rattle.numbers.specs.declared.version.Version.{Version}
@@ -12,9 +12,9 @@ use Rattle.rules.specs.Answers.{end_of}
 use Rattle.rules.specs.Calls.{operation_at, with_operation, quiet, hears_clock_answer, hears_write_answer, hears_read_answer, receives}
 use Rattle.rules.specs.Operation.{Operation, unused, asking, sending, reading, ended, hears_clock, knows_clock, gets_version, write_requests, hears_named, is_written, hears_pair, is_read}
 use Rattle.rules.specs.Ranges.{Counts, state_fits}
-use Rattle.rules.specs.State.{State, Said, nothing_ended, write_ended, read_ended, Outcome, outcome, post}
+use Rattle.rules.specs.State.{State, write_ended, read_ended, Outcome, outcome, post}
 use Rattle.operation.specs.declared.table.Operation as Code
-use Rattle.operation.specs.Alone.{asks_on, now_sends, asks_next, sends_on, write_ends, sends_next, reads_on, read_ends, reads_next}
+use Rattle.operation.specs.Alone.{asks_on, now_sends, sends_on, write_ends, reads_on, read_ends}
 use Rattle.operation.specs.States.{operation_of}
 use Rattle.field.specs.declared.interior.Interior.{Interior}
 use Rattle.field.specs.Heard.{Heard, asking_place, asking_sends, clock_place, clock_sends, sending_heard, reading_heard, heard_at}

@@ -1,5 +1,5 @@
 -- Messages logged one after the other.
-use Rattle.std.proofs.Common.{◌≡◌, ℕ, zero, suc, ◌+◌, List, [], ◌∷◌, ◌++◌, length, sym, refl, ap, ◌∙◌, arith, length-append}
+use Rattle.std.proofs.Common.{◌≡◌, ℕ, ◌+◌, List, [], ◌∷◌, ◌++◌, length, sym, ap, ◌∙◌, arith, length-append}
 use Rattle.rules.proofs.Logging.{sets_append, each_more}
 use Rattle.rules.specs.declared.message.Message.{Message}
 use Rattle.rules.specs.Lists.{each}

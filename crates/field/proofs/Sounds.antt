@@ -1,12 +1,12 @@
 -- What the invariant of a field says, and that every call keeps it.
-use Rattle.std.proofs.Common.{◌≡◌, ℕ, ◌+◌, ◌<◌, ◌≤◌, true, List, [], length, get_or, sym, refl, ap, ◌∙◌, subst, arith}
+use Rattle.std.proofs.Common.{◌≡◌, ℕ, ◌+◌, ◌<◌, ◌≤◌, true, List, [], length, get_or, subst, arith}
 use mathlib.Core.Logic.{∥∥₁_elim, ∥∥₁_map}
 use mathlib.Core.HLevel.{Π_prop}
 use native.Mathlib.Bridge.{le_prop}
 use Rattle.quorum.specs.Systems.{System, Lawful}
 use Rattle.rules.specs.declared.message.Message.{Message}
 use Rattle.rules.specs.Input.{ledger}
-use Rattle.rules.specs.State.{State, Said, Outcome, outcome, no_input}
+use Rattle.rules.specs.State.{Said, Outcome, outcome, no_input}
 use Rattle.guarantee.specs.Bounds.{Bounded}
 use Rattle.guarantee.specs.Story.{Call, outcome_of}
 use Rattle.guarantee.proofs.Bounds.{bounds_kept}

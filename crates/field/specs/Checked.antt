@@ -1,5 +1,5 @@
 -- The first refusal of a call, as the rules have it, over the whole state.
-use Rattle.std.specs.Prelude.{ℕ, ◌+◌, Bool, length}
+use Rattle.std.specs.Prelude.{ℕ, ◌+◌, length}
 use Rattle.quorum.specs.Systems.{System}
 use Rattle.rules.specs.Calls.{as_opened, has_nine}
 use Rattle.rules.specs.State.{State}

@@ -1,5 +1,5 @@
 -- A field that is not yet open, and what can be seen of a field from outside.
-use Rattle.std.specs.Prelude.{ℕ, Bool, false, cond, ◌&&◌, List, [], Some, None, Option, nat_lt}
+use Rattle.std.specs.Prelude.{ℕ, false, cond, ◌&&◌, List, [], Some, None, Option, nat_lt}
 use Rattle.numbers.specs.declared.time.Time.{Time}
 use Rattle.rules.specs.declared.message.Message.{Message}
 use Rattle.rules.specs.Operation.{Operation}

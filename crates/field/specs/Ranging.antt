@@ -4,7 +4,7 @@ use Rattle.numbers.specs.Numbers.{between}
 use Rattle.operation.specs.declared.table.Operation as Code
 use Rattle.operation.specs.States.{operation_of}
 use Rattle.rules.specs.Operation.{Operation, unused}
-use Rattle.rules.specs.Ranges.{Counts, state_fits, has_room}
+use Rattle.rules.specs.Ranges.{Counts, state_fits}
 
 -- the state of operation p
 abbrev pub place_of : List Code.Operation → ℕ → Operation

@@ -1,6 +1,5 @@
-use Rattle.std.proofs.Common.{◌≡◌, ◌-◌, map, set, sym, ap, ◌∙◌, subst}
+use Rattle.std.proofs.Common.{◌-◌, map, set, sym, ap, ◌∙◌, subst}
 use Rattle.operation.specs.States.{operation_of}
-use Rattle.rules.specs.Operation.{Operation}
 use Rattle.field.specs.Heard.{Heard, heard_at, Accepts}
 use Rattle.field.proofs.Places.{place_read, place_stored}
 use Rattle.field.proofs.hearing.hear.Goals as goal

@@ -8,12 +8,12 @@ use Rattle.field.proofs.field.Field.begin_write.Goals as goal
 
 pub invariant_of-self : goal.invariant_of-self
 unfolding outcome_of
-invariant_of-self g c = (
-  sound_after (g.I.QuorumSystem.meaning c.args.inputs.now) (g.O.QuorumSystem.meaning c.args.outputs.now) (g.met.I.QuorumSystem.lawful c.args.inputs.now) (g.met.O.QuorumSystem.lawful c.args.outputs.now)
+invariant_of-self g c = record {
+  sound =
+      sound_after (g.I.QuorumSystem.meaning c.args.inputs.now) (g.O.QuorumSystem.meaning c.args.outputs.now) (g.met.I.QuorumSystem.lawful c.args.inputs.now) (g.met.O.QuorumSystem.lawful c.args.outputs.now)
       (to_write c.args.object c.args.value) c.args.self.now.interior c.begin_write.new.self c.args.log.now c.begin_write.new.log c.args.table.now c.begin_write.new.table
-      (beginning_says c.begin_write.result) c.args.self.now.sound c.begin_write.ensures.does,
-  tt,
-)
+      (beginning_says c.begin_write.result) c.args.self.now.sound c.begin_write.ensures.does;
+}
 
 pub returns : goal.returns
 unfolding outcome_of

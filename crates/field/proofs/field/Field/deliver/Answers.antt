@@ -8,12 +8,12 @@ use Rattle.field.proofs.field.Field.deliver.Goals as goal
 
 pub invariant_of-self : goal.invariant_of-self
 unfolding outcome_of
-invariant_of-self g c = (
-  sound_after (g.I.QuorumSystem.meaning c.args.inputs.now) (g.O.QuorumSystem.meaning c.args.outputs.now) (g.met.I.QuorumSystem.lawful c.args.inputs.now) (g.met.O.QuorumSystem.lawful c.args.outputs.now)
+invariant_of-self g c = record {
+  sound =
+      sound_after (g.I.QuorumSystem.meaning c.args.inputs.now) (g.O.QuorumSystem.meaning c.args.outputs.now) (g.met.I.QuorumSystem.lawful c.args.inputs.now) (g.met.O.QuorumSystem.lawful c.args.outputs.now)
       (to_deliver c.args.number) c.args.self.now.interior c.deliver.new.self c.args.log.now c.deliver.new.log c.args.table.now c.deliver.new.table
-      (delivery_says c.deliver.result) c.args.self.now.sound c.deliver.ensures.does,
-  tt,
-)
+      (delivery_says c.deliver.result) c.args.self.now.sound c.deliver.ensures.does;
+}
 
 pub returns : goal.returns
 unfolding outcome_of

@@ -8,12 +8,12 @@ use Rattle.field.proofs.field.Field.open.Goals as goal
 
 pub invariant_of-self : goal.invariant_of-self
 unfolding outcome_of
-invariant_of-self g c = (
-  sound_after (g.I.QuorumSystem.meaning c.args.inputs.now) (g.O.QuorumSystem.meaning c.args.outputs.now) (g.met.I.QuorumSystem.lawful c.args.inputs.now) (g.met.O.QuorumSystem.lawful c.args.outputs.now)
+invariant_of-self g c = record {
+  sound =
+      sound_after (g.I.QuorumSystem.meaning c.args.inputs.now) (g.O.QuorumSystem.meaning c.args.outputs.now) (g.met.I.QuorumSystem.lawful c.args.inputs.now) (g.met.O.QuorumSystem.lawful c.args.outputs.now)
       (to_open c.args.opening.objects c.args.opening.lease c.args.opening.drift c.args.clocks.now) c.args.self.now.interior c.open.new.self c.args.log.now c.args.log.now c.args.table.now c.args.table.now
-      (acceptance c.open.result) c.args.self.now.sound c.open.ensures.does,
-  tt,
-)
+      (acceptance c.open.result) c.args.self.now.sound c.open.ensures.does;
+}
 
 pub returns : goal.returns
 unfolding outcome_of

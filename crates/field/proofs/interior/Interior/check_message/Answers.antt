@@ -1,4 +1,4 @@
-use Rattle.std.proofs.Common.{Bool, sym, ap, ◌∙◌}
+use Rattle.std.proofs.Common.{Bool, ap, ◌∙◌}
 use Rattle.checks.specs.Refused.{delivering_refusal}
 use Rattle.field.proofs.Calling.{lent_as}
 use Rattle.field.proofs.interior.Interior.check_message.Goals as goal

@@ -1,4 +1,4 @@
-use Rattle.std.proofs.Common.{Bool, length, sym, ap, ◌∙◌}
+use Rattle.std.proofs.Common.{Bool, length, ap, ◌∙◌}
 use Rattle.checks.specs.Refused.{beginning_refusal}
 use Rattle.field.proofs.Begins.{checks_table}
 use Rattle.field.proofs.Calling.{lent_as}

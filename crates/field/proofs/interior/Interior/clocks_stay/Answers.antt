@@ -1,4 +1,4 @@
-use Rattle.std.proofs.Common.{◌≡◌, Bool, ◌&&◌, sym, ap, ◌∙◌}
+use Rattle.std.proofs.Common.{Bool, ◌&&◌, sym, ap, ◌∙◌}
 use Rattle.rules.specs.Calls.{outputs_stay}
 use Rattle.field.specs.Views.{state_of}
 use Rattle.field.proofs.interior.Interior.clocks_stay.Goals as goal

@@ -1,4 +1,4 @@
-use Rattle.std.proofs.Common.{◌≡◌, sym, ap, ◌∙◌, subst}
+use Rattle.std.proofs.Common.{sym, ap, ◌∙◌, subst}
 use Rattle.operation.specs.States.{operation_of}
 use Rattle.rules.specs.declared.message.Message.TheVariants.{ClockAnswer}
 use Rattle.field.specs.Heard.{Accepts}

@@ -1,4 +1,4 @@
-use Rattle.std.proofs.Common.{◌≡◌, ℕ, [], ◌∷◌, sym, ap, ◌∙◌, arith}
+use Rattle.std.proofs.Common.{◌≡◌, ℕ, [], ◌∷◌, ap, ◌∙◌, arith}
 use Rattle.rules.specs.Lists.{each}
 use Rattle.rules.specs.State.{State, post}
 use Rattle.field.specs.Views.{state_of}

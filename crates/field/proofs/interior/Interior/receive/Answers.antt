@@ -1,4 +1,4 @@
-use Rattle.std.proofs.Common.{◌≡◌, sym, subst}
+use Rattle.std.proofs.Common.{sym, subst}
 use Rattle.rules.specs.declared.message.Message.{Message}
 use Rattle.field.specs.Delivered.{numbered}
 use Rattle.field.specs.Heard.{Accepts}

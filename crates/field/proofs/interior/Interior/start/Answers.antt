@@ -1,7 +1,6 @@
-use Rattle.std.proofs.Common.{ℕ, true, List, take, refl, ap, ◌∙◌}
+use Rattle.std.proofs.Common.{ℕ, true, take, refl, ap, ◌∙◌}
 use native.Mathlib.Nat.{sub-zero}
 use Rattle.std.proofs.lemmas.List.{take_rest}
-use Rattle.numbers.specs.declared.time.Time.{Time}
 use Rattle.servers.specs.Starting.{first_inputs, first_outputs}
 use Rattle.field.proofs.interior.Interior.start.Goals as goal
 

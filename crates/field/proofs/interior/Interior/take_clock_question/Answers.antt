@@ -1,7 +1,5 @@
-use Rattle.std.proofs.Common.{◌≡◌, ℕ, [], subst, arith}
+use Rattle.std.proofs.Common.{[], arith}
 use Rattle.guarantee.proofs.Fits.{fits_question}
-use Rattle.rules.specs.declared.message.Message.TheVariants.{ClockQuestion}
-use Rattle.rules.specs.Calls.{quiet, receives}
 use Rattle.field.specs.Views.{frame_of, state_of}
 use Rattle.field.proofs.Received.{clock_taken, clock_received}
 use Rattle.field.proofs.interior.Interior.take_clock_question.Goals as goal

@@ -1,8 +1,7 @@
-use Rattle.std.proofs.Common.{◌≡◌, ℕ, [], subst, arith}
-use Rattle.guarantee.proofs.Fits.{fits_ack}
+use Rattle.std.proofs.Common.{◌≡◌, ℕ, subst}
 use Rattle.rules.specs.declared.message.Message.TheVariants.{InvalidationAnswer}
 use Rattle.rules.specs.Calls.{quiet, receives}
-use Rattle.field.specs.Views.{frame_of, state_of}
+use Rattle.field.specs.Views.{state_of}
 use Rattle.field.proofs.Received.{ack_received}
 use Rattle.field.proofs.interior.Interior.take_invalidation_answer.Goals as goal
 

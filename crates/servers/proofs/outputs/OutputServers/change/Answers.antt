@@ -1,8 +1,7 @@
-use Rattle.std.proofs.Common.{◌≡◌, ◌<◌, length, get_or, ap, ◌∙◌, rules}
+use Rattle.std.proofs.Common.{◌<◌, length, ap, ◌∙◌, rules}
 use Rattle.output_server.specs.Views.{output_of}
 use Rattle.rules.specs.Output.{Output}
 use Rattle.rules.specs.State.{no_output}
-use Rattle.servers.specs.Views.{outputs_of}
 use Rattle.servers.proofs.Picks.{picked, replaced}
 use Rattle.servers.proofs.outputs.OutputServers.change.Goals as goal
 
