@@ -5,6 +5,7 @@ use numbers::{
 };
 use quorum::{MemberSet, Refusal};
 use rules::{Message, Pair, Pairs, Parts};
+use std::process::Abort;
 use std::test::*;
 
 const UNUSED: Message = Message::ClockQuestion {
@@ -57,7 +58,13 @@ impl Stage {
     }
 
     // A renewal request of an output server, stamped with 70. One message is logged.
-    pub(crate) fn renew(&mut self, output: u8, parts: Parts, object: u8) -> Result<(), Fail> {
+    pub(crate) fn renew(
+        &mut self,
+        rt: &impl Abort,
+        output: u8,
+        parts: Parts,
+        object: u8,
+    ) -> Result<(), Fail> {
         let output = OutputNumber::new(output).ok_or(Refusal::OutOfRange)?;
         let object = ObjectNumber::new(object).ok_or(Refusal::OutOfRange)?;
         let made = self.server.answer_renewal(
@@ -70,7 +77,7 @@ impl Stage {
             &mut self.log,
             0,
         )?;
-        assert_eq!(made, 1);
+        assert_eq!(rt; made, 1);
         Ok(())
     }
 
@@ -116,16 +123,22 @@ impl Stage {
         Ok(())
     }
 
-    pub(crate) fn expect(&self, place: usize, message: Message) -> Result<(), Fail> {
+    pub(crate) fn expect(
+        &self,
+        rt: &impl Abort,
+        place: usize,
+        message: Message,
+    ) -> Result<(), Fail> {
         let logged = self.log.get(place).ok_or(Refusal::NoSuchMessage)?;
-        assert_eq!(logged, &message, "message {place} of the step");
+        assert_eq!(rt; logged, &message, "message {place} of the step");
         Ok(())
     }
 
     // That a clock question is answered by that clock.
-    pub(crate) fn expect_clock(&mut self, clock: u16) -> Result<(), Fail> {
-        assert_eq!(self.server.answer_clock(self.me, 9, &mut self.log, 0)?, 1);
+    pub(crate) fn expect_clock(&mut self, rt: &impl Abort, clock: u16) -> Result<(), Fail> {
+        assert_eq!(rt; self.server.answer_clock(self.me, 9, &mut self.log, 0)?, 1);
         self.expect(
+            rt,
             0,
             Message::ClockAnswer {
                 input: 2,
@@ -139,13 +152,15 @@ impl Stage {
     // the answer grants, if it does, is granted then.
     pub(crate) fn expect_waiting(
         &mut self,
+        rt: &impl Abort,
         output: u8,
         epoch: u32,
         length: u32,
         list: Pairs,
     ) -> Result<(), Fail> {
-        self.renew(output, Parts::Volume, 0)?;
+        self.renew(rt, output, Parts::Volume, 0)?;
         self.expect(
+            rt,
             0,
             Message::RenewalAnswer {
                 input: 2,
@@ -166,13 +181,15 @@ impl Stage {
     // nothing waiting.
     pub(crate) fn expect_given(
         &mut self,
+        rt: &impl Abort,
         parts: Parts,
         version: Version,
         value: u64,
         length: u32,
     ) -> Result<(), Fail> {
-        self.renew(0, parts, 3)?;
+        self.renew(rt, 0, parts, 3)?;
         self.expect(
+            rt,
             0,
             Message::RenewalAnswer {
                 input: 2,
@@ -192,12 +209,14 @@ impl Stage {
     // That at a write request output server 0, the only one, is told of the version `held`.
     pub(crate) fn expect_told(
         &mut self,
+        rt: &impl Abort,
         object: u8,
         version: Version,
         held: Version,
     ) -> Result<(), Fail> {
-        assert_eq!(self.write(object, version)?, 2);
+        assert_eq!(rt; self.write(object, version)?, 2);
         self.expect(
+            rt,
             0,
             Message::Invalidation {
                 input: 2,
@@ -206,13 +225,18 @@ impl Stage {
                 version: held,
             },
         )?;
-        self.expect(1, named(0))
+        self.expect(rt, 1, named(0))
     }
 
     // That at a write request output server 0, the only one, is shut out.
-    pub(crate) fn expect_shut_out(&mut self, object: u8, version: Version) -> Result<(), Fail> {
-        assert_eq!(self.write(object, version)?, 1);
-        self.expect(0, named(1))
+    pub(crate) fn expect_shut_out(
+        &mut self,
+        rt: &impl Abort,
+        object: u8,
+        version: Version,
+    ) -> Result<(), Fail> {
+        assert_eq!(rt; self.write(object, version)?, 1);
+        self.expect(rt, 0, named(1))
     }
 }
 

@@ -5,6 +5,7 @@ use numbers::{
 use output_server::{OutputServer, Renewal};
 use quorum::{Majority, Refusal};
 use rules::{Message, Pair, Pairs, Parts};
+use std::process::Abort;
 use std::test::*;
 
 const UNUSED: Message = Message::ClockQuestion {
@@ -93,13 +94,18 @@ impl Stage {
     }
 
     // An invalidation of object 3 by an input server, and that it is acknowledged.
-    pub(crate) fn invalidated(&mut self, input: u8, version: Version) -> Result<(), Fail> {
+    pub(crate) fn invalidated(
+        &mut self,
+        rt: &impl Abort,
+        input: u8,
+        version: Version,
+    ) -> Result<(), Fail> {
         let number = InputNumber::new(input).ok_or(Refusal::OutOfRange)?;
         let made = self
             .server
             .take_invalidation(self.me, number, self.object, version, &mut self.log, 0)?;
-        assert_eq!(made, 1);
-        self.expect_acknowledged(input, told(version))
+        assert_eq!(rt; made, 1);
+        self.expect_acknowledged(rt, input, told(version))
     }
 
     // The number by which an invalidation is refused where 4 messages of 12 are made, and 8 free, or
@@ -115,15 +121,26 @@ impl Stage {
         }
     }
 
-    pub(crate) fn expect(&self, place: usize, message: Message) -> Result<(), Fail> {
+    pub(crate) fn expect(
+        &self,
+        rt: &impl Abort,
+        place: usize,
+        message: Message,
+    ) -> Result<(), Fail> {
         let logged = self.log.get(place).ok_or(Refusal::NoSuchMessage)?;
-        assert_eq!(logged, &message, "message {place} of the step");
+        assert_eq!(rt; logged, &message, "message {place} of the step");
         Ok(())
     }
 
     // That the step logged an acknowledgement of that list.
-    pub(crate) fn expect_acknowledged(&self, input: u8, list: Pairs) -> Result<(), Fail> {
+    pub(crate) fn expect_acknowledged(
+        &self,
+        rt: &impl Abort,
+        input: u8,
+        list: Pairs,
+    ) -> Result<(), Fail> {
         self.expect(
+            rt,
             0,
             Message::InvalidationAnswer {
                 output: 4,
@@ -134,9 +151,15 @@ impl Stage {
     }
 
     // That a read is answered by that version and value.
-    pub(crate) fn expect_read(&mut self, version: Version, value: u64) -> Result<(), Fail> {
-        assert_eq!(self.read()?, 1);
+    pub(crate) fn expect_read(
+        &mut self,
+        rt: &impl Abort,
+        version: Version,
+        value: u64,
+    ) -> Result<(), Fail> {
+        assert_eq!(rt; self.read()?, 1);
         self.expect(
+            rt,
             0,
             Message::ReadAnswer {
                 output: 4,
@@ -149,19 +172,27 @@ impl Stage {
 
     // That a read makes one renewal request alone: to that input server, for those parts, stamped
     // with that clock.
-    pub(crate) fn expect_asked(&mut self, input: u8, parts: Parts, stamp: u64) -> Result<(), Fail> {
-        assert_eq!(self.read()?, 1);
-        self.expect_request(0, input, parts, stamp)
+    pub(crate) fn expect_asked(
+        &mut self,
+        rt: &impl Abort,
+        input: u8,
+        parts: Parts,
+        stamp: u64,
+    ) -> Result<(), Fail> {
+        assert_eq!(rt; self.read()?, 1);
+        self.expect_request(rt, 0, input, parts, stamp)
     }
 
     pub(crate) fn expect_request(
         &self,
+        rt: &impl Abort,
         place: usize,
         input: u8,
         parts: Parts,
         stamp: u64,
     ) -> Result<(), Fail> {
         self.expect(
+            rt,
             place,
             Message::RenewalRequest {
                 output: 4,
