@@ -1,5 +1,5 @@
 // What a sending write does with an answer.
-ghost use Rattle.std.specs.Prelude.{◌≡◌, ◌^◌, ◌<◌, ◌≤◌, ◌&&◌, ltb, if◌then◌else◌, ◌==◌, bit_or, nat_lt};
+ghost use Rattle.std.specs.Prelude.{◌≡◌, ◌^◌, ◌<◌, ◌≤◌, ◌&&◌, if◌then◌else◌, ◌==◌, bit_or, nat_lt};
 ghost use Rattle.quorum.specs.Sets.{has, set_of};
 ghost use Rattle.rules.specs.Operation.{sending, hears_named, named_by, counts, is_written};
 ghost use Rattle.rules.specs.Ranges.{named_fit, sending_fits};
@@ -76,7 +76,7 @@ impl SendingWrite {
 
     fn and_named_fits(&self, fit: bool, input: u8, counts: Counts) -> bool
         requires { input < 8 }
-        ensures { result ≡ (fit && (if ltb input counts.inputs then nat_lt (named_by self.now.named input) (2 ^ counts.outputs) else (named_by self.now.named input == 0))) }
+        ensures { result ≡ (fit && (if nat_lt input counts.inputs then nat_lt (named_by self.now.named input) (2 ^ counts.outputs) else (named_by self.now.named input == 0))) }
     {
         let named = self.named[input as usize];
         if input < counts.inputs {
