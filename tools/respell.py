@@ -4,7 +4,8 @@
 usage: python3 tools/respell.py [FOLDER]      FOLDER: the top of a checkout (default: the one that has this script)
 
 The table beside this script has a row for each name: the old spelling, a tab, the new one. Only whole
-words turn, each once, in one pass: run it once. It turns
+words turn, each once, in one pass. A tree where none of the old spellings with a dash or a capital
+stands is left alone, since two of the new spellings were old ones of something else. It turns
   .antt    code, and the words of comments that the file's code has too
   .rt      the same, but for strings; Rust's own names never have a dash or a capital inside
   .md      spans between backticks and fenced blocks
@@ -72,8 +73,25 @@ def page(text, names):
     return spans.sub(lambda m: turned(m[0], names), text)
 
 
+def is_turned(top, names):
+    """Whether no file of the crates has an old spelling that could be no new one."""
+    odd = {w for w in names if not re.fullmatch(r"[a-z0-9_']+", w)}
+    for folder, folders, files in os.walk(os.path.join(top, "crates")):
+        folders[:] = [f for f in folders if f != "out"]
+        for file in files:
+            if file.endswith(".antt") and not file.endswith(MADE):
+                with open(os.path.join(folder, file), encoding="utf-8") as f:
+                    parts = split(f.read(), "--")
+                    if any(odd & set(WORD.findall(part)) for kind, part in parts if kind == "code"):
+                        return False
+    return True
+
+
 def main(top):
     names, count = table(), 0
+    if is_turned(top, names):
+        print("respell: nothing to do")
+        return
     for folder, folders, files in os.walk(top):
         folders[:] = sorted(f for f in folders if f not in (".git", "out", "tools"))
         for file in sorted(files):

@@ -112,7 +112,7 @@ under_lease = record {
       ∷ deliveries (9 ∷ 10 ∷ 11 ∷ 13 ∷ [])
       -- call 17: the invalidation, and 14, which answers it. The request is delivered again, and answered by 15
       ++ deliveries (12 ∷ 14 ∷ 11 ∷ 15 ∷ [])
-      -- call 21: a read, with request 16. The lease is live and the copy is old: 17 asks for a copy, 18 brings it, 19 answers
+      -- call 21: a read, whose request is message 16. The lease is live and the copy is old: 17 asks for a copy, 18 brings it, 19 answers
       ++ to_read 0
       ∷ deliveries (16 ∷ 17 ∷ 18 ∷ 16 ∷ 19 ∷ []);
 }
@@ -147,7 +147,7 @@ lease_over = record {
   start = unopened 24 3;
   calls =
       to_open 1 1000 10 (zeros 2)
-      -- call 1: a read, with request 1. 2 asks for copy and lease, 3 brings them, 4 answers
+      -- call 1: a read, whose request is message 1. 2 asks for copy and lease, 3 brings them, 4 answers
       ∷ to_read 0
       ∷ deliveries (1 ∷ 2 ∷ 3 ∷ 1 ∷ 4 ∷ [])
       -- call 7: the lease runs out
@@ -155,7 +155,7 @@ lease_over = record {
       -- call 8: a write, with messages 5 to 8
       ∷ to_write 0 7
       ∷ in_turn 5
-      -- call 13: a read, with request 9. The lease is over: 10 asks for one, 11 brings it with the invalidation that waited,
+      -- call 13: a read, whose request is message 9. The lease is over: 10 asks for one, 11 brings it with the invalidation that waited,
       -- 12 acknowledges that
       ++ to_read 0
       ∷ deliveries (9 ∷ 10 ∷ 11 ∷ 12 ∷ [])
