@@ -2,4 +2,3 @@ pub mod Lines
 pub mod Links
 pub mod Meanings
 pub mod Fresh
-pub mod Shows

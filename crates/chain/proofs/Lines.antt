@@ -1,14 +1,14 @@
 -- Lines of records: what a line is, what one write leaves of it, and steps along it.
 use Rattle.std.proofs.Common.{◌≡◌, ℕ, zero, suc, ◌+◌, ◌-◌, ◌<◌, ◌≤◌, true, false, cond, eqb, ◌≢◌, List, [], ◌∷◌, ◌++◌, map, length, get_or, set, sym, refl, ap, ◌∙◌, subst, ap₂, subst₂, inl, inr, arith}
 use mathlib.Core.Logic.{∥∥₁_elim}
-use mathlib.Core.HLevel.{Π_prop, ×_prop, ⊥_prop, Unit-prop}
+use mathlib.Core.HLevel.{Unit-prop}
 use native.Mathlib.Nat.{ℕ_set}
 use native.Mathlib.Bridge.{le_prop}
-use Rattle.std.proofs.lemmas.List.{get_or-set_same, get_or-set_other, get_or-map, append_assoc}
+use Rattle.std.proofs.lemmas.List.{get_or-set_same, get_or-set_other, get_or-map}
 use Rattle.std.proofs.lemmas.Bool.{ne_eqb, eq-eqb, cond-true, cond-false}
 use Rattle.numbers.specs.Numbers.{records}
-use Rattle.rules.specs.declared.pairs.Pair.{Pair}
-use Rattle.chain.specs.Records.{blank, at, pair_in, Entry, entry, walk, line, Step, Leads, On, count, tally, naming, total, Lines, View, Sound, Stands}
+use Rattle.chain.specs.declared.record.Entry.{Entry}
+use Rattle.chain.specs.Records.{blank, at, pair_in, entry, walk, line, Step, Leads, On, count, tally, naming, total, Lines, View, Sound, Ends}
 use Rattle.chain.specs.declared.record.Record.{Record}
 
 -- A line is determined by where it begins.
@@ -44,44 +44,20 @@ length_line rs i = length_walk rs records i
 
 -- The facts of the invariant have one proof each.
 
-pair_set : (p q : Pair) → IsProp (p ≡ q)
-pair_set p q e f =
-    λ i k. record {
-      object = ℕ_set _ _ (λ t. (e t).object) (λ t. (f t).object) i k;
-      version = record { 0 = ℕ_set _ _ (λ t. (e t).version.0) (λ t. (f t).version.0) i k };
-    }
-
-step_prop : (rs : List Record) (i : ℕ) (x : Entry) → IsProp (Step rs i x)
-step_prop rs i x s t =
-    λ k. record {
-      number = ℕ_set _ _ s.number t.number k;
-      some = le_prop s.some t.some k;
-      within = le_prop s.within t.within k;
-      holds = pair_set _ _ s.holds t.holds k;
-    }
-
 leads_prop : (rs : List Record) (i : ℕ) (es : List Entry) (e : ℕ) → IsProp (Leads rs i es e)
 unfolding Leads
-leads_prop rs i [] e = ℕ_set i e
-leads_prop rs i (x ∷ es) e = ×_prop (step_prop rs i x) (leads_prop rs (at rs i).next es e)
+leads_prop rs i [] e = hlevel ℕ_set
+leads_prop rs i (x ∷ es) e = hlevel (le_prop, ℕ_set, leads_prop rs (at rs i).next es e)
 
 lines_prop : (rs : List Record) (hs : List ℕ) (cs : List (List Entry)) → IsProp (Lines rs hs cs)
 unfolding Lines
-lines_prop rs [] [] = Unit-prop
-lines_prop rs [] (c ∷ cs) = ⊥_prop
-lines_prop rs (h ∷ hs) [] = ⊥_prop
-lines_prop rs (h ∷ hs) (c ∷ cs) = ×_prop (leads_prop rs h c 0) (×_prop (Π_prop (λ o. le_prop)) (lines_prop rs hs cs))
+lines_prop rs [] [] = hlevel Unit-prop
+lines_prop rs [] (c ∷ cs) = hlevel
+lines_prop rs (h ∷ hs) [] = hlevel
+lines_prop rs (h ∷ hs) (c ∷ cs) = hlevel (le_prop, leads_prop, lines_prop rs hs cs)
 
 view_prop : (rs : List Record) (hs : List ℕ) (f : ℕ) (cs : List (List Entry)) (fs : List Entry) → IsProp (View rs hs f cs fs)
-view_prop rs hs f cs fs v w =
-    λ k. record {
-      lines = lines_prop rs hs cs v.lines w.lines k;
-      spare = leads_prop rs f fs 0 v.spare w.spare k;
-      once = Π_prop (λ i. le_prop) v.once w.once k;
-      all = ℕ_set _ _ v.all w.all k;
-      rows = ℕ_set _ _ v.rows w.rows k;
-      tops = ℕ_set _ _ v.tops w.tops k;
-    }
+view_prop rs hs f cs fs = hlevel (le_prop, ℕ_set, leads_prop, lines_prop)
 
 pub viewed : (rs : List Record) (hs : List ℕ) (f : ℕ) → Sound rs hs f → View rs hs f (map (line rs) hs) (line rs f)
 viewed rs hs f s = ∥∥₁_elim s (view_prop rs hs f _ _) (λ v. v)
@@ -245,51 +221,59 @@ module _ (rs : List Record) (hs : List ℕ) (f : ℕ) (cs : List (List Entry)) (
 pub line_at : (rs : List Record) (hs : List ℕ) (j : ℕ) → j < length hs → get_or (map (line rs) hs) j [] ≡ line rs (get_or hs j 0)
 line_at rs hs j l = get_or-map (line rs) hs j 0 [] l
 
-pub on_start : (rs : List Record) (hs : List ℕ) (f j : ℕ) → Sound rs hs f → j < 8 → On rs (get_or hs j 0)
+pub on_start : (rs : List Record) (hs : List ℕ) (f j : ℕ) → Sound rs hs f → j < 8 → ∥ On rs (get_or hs j 0) ∥₁
 on_start rs hs f j s q =
     let v = viewed rs hs f s in
     let l : j < length hs = omega arith in
-    subst (λ es. Leads rs (get_or hs j 0) es 0) (line_at rs hs j l) (lines_at rs hs (map (line rs) hs) v.lines j l).0
+    ∣ subst (λ es. Leads rs (get_or hs j 0) es 0) (line_at rs hs j l) (lines_at rs hs (map (line rs) hs) v.lines j l).0 ∣₁
 
-pub on_more : (rs : List Record) (x : ℕ) → On rs x → 0 < x
-    → (On rs (at rs x).next) × (line rs x ≡ entry rs x ∷ line rs (at rs x).next) × (x ≤ records)
-on_more rs x o some =
-    let w = some_left rs x (line rs x) o some in
-    let q = line_is rs (at rs x).next w.1 (omega (arith, length_line rs x, ap length w.2)) w.4 in (
-      subst (λ es. Leads rs (at rs x).next es 0) (sym q) w.4,
-      w.2 ∙ ap₂ (λ a b. a ∷ b) (sym (entry_is rs x w.0 w.3)) (sym q),
-      w.3.within,
-    )
+module _ (rs : List Record) (x : ℕ) (end : ∥ On rs x ∥₁) where
+  on : On rs x
+  on = ∥∥₁_elim end (leads_prop rs x (line rs x) 0) (λ o. o)
+
+  pub on_none : x ≡ 0 → line rs x ≡ []
+  on_none z = none_left rs x (line rs x) on z
+
+  pub on_more : 0 < x → ∥ On rs (at rs x).next ∥₁ × (line rs x ≡ entry rs x ∷ line rs (at rs x).next) × (x ≤ records)
+  on_more some =
+      let w = some_left rs x (line rs x) on some in
+      let q = line_is rs (at rs x).next w.1 (omega (arith, length_line rs x, ap length w.2)) w.4 in (
+        ∣ subst (λ es. Leads rs (at rs x).next es 0) (sym q) w.4 ∣₁,
+        w.2 ∙ ap₂ (λ a b. a ∷ b) (sym (entry_is rs x w.0 w.3)) (sym q),
+        w.3.within,
+      )
 
 -- A place on a line.
 
-pub stands_start : (rs : List Record) (h o : ℕ) → On rs h → Stands rs h o 0 h
-unfolding Leads naming
-stands_start rs h o l =
-    record { front = []; back = line rs h; whole = refl; before = refl; after = l; last = inl (refl, refl); none = refl }
+-- where a line begins
+abbrev pub first : List Entry → ℕ
+first [] = 0
+first (y ∷ ys) = y.slot
 
-module _ (rs : List Record) (h o b x : ℕ) (s : Stands rs h o b x) where
-  pub stands_more : 0 < x → ((at rs x).object ≡ o → ⊥) → Stands rs h o x (at rs x).next
-  unfolding Leads naming
-  stands_more some ne =
-      let w = some_left rs x s.back s.after some in
-      let y = w.0 in
-      record {
-        front = s.front ++ (y ∷ []);
-        back = w.1;
-        whole = s.whole ∙ ap (λ es. s.front ++ es) w.2 ∙ sym (append_assoc s.front (y ∷ []) w.1);
-        before = leads_join rs h s.front x (y ∷ []) (at rs x).next s.before (w.3, refl);
-        after = w.4;
-        last = inr (s.front, y, refl, sym w.3.number);
-        none =
-            let t = cond-false {A = ℕ} (eqb y.pair.object o) 1 0 (ne_eqb _ _ (λ e. ne (ap (λ p. p.object) w.3.holds ∙ e))) in
-            omega (arith, naming_join o s.front (y ∷ []), s.none);
-      }
+leads_first : (rs : List Record) (i : ℕ) (es : List Entry) → Leads rs i es 0 → i ≡ first es
+unfolding Leads
+leads_first rs i [] l = l
+leads_first rs i (y ∷ es) l = l.0.number
 
-  -- what stands before x has a record's number, or is 0
-  pub before_within : b ≤ records
-  before_within =
-      elim s.last [
-        | inl e ↦ omega (arith, e.1)
-        | inr e ↦ (last_step rs h e.0 e.1 x b (subst (λ es. Leads rs h es x) e.2 s.before) e.3).1.within
-      ]
+-- the line that begins at h goes through its front to where the rest begins
+pub leads_parts : (rs : List Record) (h : ℕ) (front back : List Entry) → ∥ On rs h ∥₁ → line rs h ≡ front ++ back
+    → Leads rs h front (first back) × Leads rs (first back) back 0
+leads_parts rs h front back end whole =
+    let l = leads_split rs h front back 0 (subst (λ es. Leads rs h es 0) whole (on rs h end)) in
+    subst (λ x. Leads rs h front x × Leads rs x back 0) (leads_first rs l.0 back l.1.1) l.1
+
+-- where a line begins, and what stands before, have a record's number, or are 0
+pub leads_within : (rs : List Record) (i : ℕ) (es : List Entry) → Leads rs i es 0 → i ≤ records
+unfolding Leads
+leads_within rs i [] l = omega arith
+leads_within rs i (y ∷ es) l = l.0.within
+
+pub ends_within : (rs : List Record) (h : ℕ) (es : List Entry) (x b : ℕ) → Leads rs h es x → Ends es b → b ≤ records
+ends_within rs h es x b l (inl e) = omega (arith, e.1)
+ends_within rs h es x b l (inr e) = (last_step rs h e.0 e.1 x b (subst (λ ys. Leads rs h ys x) e.2 l) e.3).1.within
+
+-- one more entry that does not name the object
+pub naming_more : (o : ℕ) (ys : List Entry) (y : Entry) → naming o ys ≡ 0 → (y.pair.object ≡ o → ⊥) → naming o (ys ++ y ∷ []) ≡ 0
+unfolding naming
+naming_more o ys y none ne =
+    let t = cond-false {A = ℕ} (eqb y.pair.object o) 1 0 (ne_eqb _ _ ne) in omega (arith, naming_join o ys (y ∷ []))

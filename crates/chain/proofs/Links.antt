@@ -5,7 +5,8 @@ use Rattle.std.proofs.lemmas.Bool.{ne_eqb, eq-eqb, eqb-false, cond-true, cond-fa
 use Rattle.numbers.specs.Numbers.{records}
 use Rattle.numbers.specs.declared.version.Version.{Version}
 use Rattle.rules.specs.declared.pairs.Pair.{Pair}
-use Rattle.chain.specs.Records.{at, pair_in, relinked, linked_records, linked_heads, Entry, Step, Leads, count, tally, naming, Lines, View, Ends}
+use Rattle.chain.specs.declared.record.Entry.{Entry}
+use Rattle.chain.specs.Records.{at, pair_in, relinked, linked_records, linked_heads, Step, Leads, count, tally, naming, Lines, View, Ends}
 use Rattle.chain.specs.declared.record.Record.{Record}
 use Rattle.chain.proofs.Lines.{at_same, leads_kept, leads_join, last_step, count_join, count_here, count_nil, naming_join, tally_set, total_set, lines_length, lines_at, lines_put, lines_kept, lines_set}
 

@@ -1,18 +1,18 @@
 -- What each change of the lines means for the pairs that wait.
-use Rattle.std.proofs.Common.{◌≡◌, ℕ, ◌+◌, ◌<◌, ◌≤◌, true, false, eqb, List, [], ◌∷◌, ◌++◌, map, length, get_or, set, sym, refl, ap, ◌∙◌, subst, ap₂, subst₂, arith}
+use Rattle.std.proofs.Common.{◌≡◌, ℕ, ◌+◌, ◌<◌, ◌≤◌, true, false, eqb, List, [], ◌∷◌, ◌++◌, map, length, get_or, set, sym, refl, ap, ◌∙◌, subst, ap₂, arith}
 use Rattle.std.proofs.lemmas.List.{get_or-map, set-get_or, length-map, map-set, map-append, append-nil}
 use Rattle.std.proofs.lemmas.Bool.{ne_eqb, eq-eqb, le-leb, lt-leb, lt-ltb, le-ltb, cond-true, cond-false, and_from, and_left, and_right, or_from, or_left, or_right}
 use Rattle.numbers.specs.Numbers.{records}
-use Rattle.numbers.specs.declared.numbering.OutputNumber.{OutputNumber}
 use Rattle.numbers.specs.declared.version.Version.{Version}
 use Rattle.rules.specs.declared.pairs.Pair.{Pair}
 use Rattle.rules.specs.Input.{names, queued, freed, used}
-use Rattle.chain.specs.Records.{at, relinked, linked_records, linked_heads, Entry, line, Step, Leads, On, naming, total, View, Sound, Ends, Stands}
+use Rattle.chain.specs.declared.record.Entry.{Entry}
+use Rattle.chain.specs.Records.{at, relinked, linked_records, linked_heads, line, Step, Leads, naming, total, View, Sound, Ends, Stands}
 use Rattle.chain.specs.Waiting.{pairs_along, waiting_in, waiting_of, waiting_for, has_free, Found}
 use Rattle.chain.specs.declared.chains.Chains.{Chains}
 use Rattle.chain.specs.declared.chains.walk.Place.{Place}
 use Rattle.chain.specs.declared.record.Record.{Record}
-use Rattle.chain.proofs.Lines.{naming_join, lines_at, viewed, sealed, view_lines, line_at, none_left, some_left, on_start, before_within}
+use Rattle.chain.proofs.Lines.{naming_join, lines_at, viewed, sealed, view_lines, line_at, none_left, some_left, on_start, first, leads_parts, leads_within, ends_within}
 use Rattle.chain.proofs.Links.{renewed, filled, view_unlinked, view_renewed, view_released, view_appended}
 
 -- The rules' words, on the pairs along a line.
@@ -70,9 +70,9 @@ pub waiting_lines : (rs : List Record) (hs : List ℕ) (f : ℕ) (cs : List (Lis
 unfolding waiting_in
 waiting_lines rs hs f cs fs v = ap (map pairs_along) (view_lines rs hs f cs fs v)
 
--- The chains s, and what is done to the one of output server out.
+-- The chains s, and what is done to the one of output server j.
 
-module _ (s : Chains) (out : OutputNumber) where
+module _ (s : Chains) (j : ℕ) (inside : j < 8) where
   abbrev rs : List Record
   rs = s.records
 
@@ -82,9 +82,6 @@ module _ (s : Chains) (out : OutputNumber) where
   abbrev f : ℕ
   f = s.free
 
-  abbrev j : ℕ
-  j = out.number
-
   -- the line of each output server
   abbrev cs : List (List Entry)
   cs = map (line rs) hs
@@ -93,17 +90,18 @@ module _ (s : Chains) (out : OutputNumber) where
   v = viewed rs hs f s.sound
 
   top : j < length hs
-  top = omega (arith, v.tops, out.inside)
+  top = omega (arith, v.tops, inside)
 
-  waiting_at : waiting_for s j ≡ pairs_along (line rs (get_or hs j 0))
+  pub waiting_at : waiting_for s j ≡ pairs_along (line rs (get_or hs j 0))
   unfolding waiting_in
   waiting_at = get_or-map pairs_along cs j [] [] (simp length-map top) ∙ ap pairs_along (line_at rs hs j top)
 
-  -- line j became c
-  waiting_set : (rs' : List Record) (hs' : List ℕ) (f' : ℕ) (fs' c : List Entry) → View rs' hs' f' (set cs j c) fs'
-      → waiting_in rs' hs' ≡ set (waiting_of s) j (pairs_along c)
+  -- line j became c, whose pairs are ps
+  became : (rs' : List Record) (hs' : List ℕ) (f' : ℕ) (fs' c : List Entry) (ps : List Pair) → View rs' hs' f' (set cs j c) fs'
+      → pairs_along c ≡ ps → Sound rs' hs' f' × (waiting_in rs' hs' ≡ set (waiting_of s) j ps)
   unfolding waiting_in
-  waiting_set rs' hs' f' fs' c w = waiting_lines rs' hs' f' _ fs' w ∙ map-set pairs_along cs j c
+  became rs' hs' f' fs' c ps w e =
+      (sealed rs' hs' f' _ fs' w, waiting_lines rs' hs' f' _ fs' w ∙ map-set pairs_along cs j c ∙ ap (set (waiting_of s) j) e)
 
   waiting_same : (c : List Pair) → c ≡ waiting_for s j → waiting_of s ≡ set (waiting_of s) j c
   waiting_same c e = sym (ap (set (waiting_of s) j) e ∙ set-get_or (waiting_of s) j [])
@@ -111,14 +109,6 @@ module _ (s : Chains) (out : OutputNumber) where
   waiting_used : used (waiting_of s) + length (line rs f) ≡ records
   unfolding waiting_in
   waiting_used = ap (λ n. n + length (line rs f)) (used_along cs) ∙ v.all
-
-  -- where the chain begins; the code has the output server's number as i
-  module _ (i : ℕ) (is : i ≡ j) where
-    pub head_on : On rs (get_or hs i 0)
-    head_on = on_start rs hs f i s.sound (omega (arith, out.inside))
-
-    pub head_waits : waiting_for s j ≡ pairs_along (line rs (get_or hs i 0))
-    head_waits = waiting_at ∙ ap (λ k. pairs_along (line rs (get_or hs k 0))) (sym is)
 
   -- Where no record is free, the chain becomes free.
   module _ (none : f ≡ 0) where
@@ -128,18 +118,8 @@ module _ (s : Chains) (out : OutputNumber) where
     pub none_free : has_free (waiting_of s) ≡ false
     none_free = le-ltb _ _ (omega (arith, waiting_used, ap length no_line))
 
-    released_view : View rs (set hs j 0) (get_or hs j 0) (set cs j []) (get_or cs j [])
-    released_view = view_released rs hs f cs (line rs f) v j out.inside no_line
-
-    module _ (i : ℕ) (is : i ≡ j) where
-      pub released_sound : Sound rs (set hs i 0) (get_or hs i 0)
-      released_sound =
-          subst (λ k. Sound rs (set hs k 0) (get_or hs k 0)) (sym is) (sealed rs (set hs j 0) (get_or hs j 0) _ _ released_view)
-
-      pub released_waiting : waiting_in rs (set hs i 0) ≡ set (waiting_of s) j []
-      released_waiting =
-          subst (λ k. waiting_in rs (set hs k 0) ≡ set (waiting_of s) j []) (sym is)
-          (waiting_set rs (set hs j 0) (get_or hs j 0) _ [] released_view)
+    pub released : Sound rs (set hs j 0) (get_or hs j 0) × (waiting_in rs (set hs j 0) ≡ set (waiting_of s) j [])
+    released = became rs (set hs j 0) (get_or hs j 0) _ [] [] (view_released rs hs f cs (line rs f) v j inside no_line) refl
 
   -- Where a record is free.
   module _ (some : 0 < f) where
@@ -160,8 +140,23 @@ module _ (s : Chains) (out : OutputNumber) where
     waiting_front : waiting_for s j ≡ pairs_along st.front
     waiting_front = waiting_at ∙ ap pairs_along whole_front
 
-    pub not_named : names o (waiting_for s j) ≡ false
+    not_named : names o (waiting_for s j) ≡ false
     not_named = ap (names o) waiting_front ∙ names_none o st.front st.none
+
+  -- The place at the first of the entries back.
+  pub found_at : (o b : ℕ) (front back : List Entry) → line rs (get_or hs j 0) ≡ front ++ back → Ends front b → naming o front ≡ 0
+      → ((y : Entry) (zs : List Entry) → back ≡ y ∷ zs → y.pair.object ≡ o) → Found s j o (record { before = b; here = first back })
+  found_at o b front back whole last none own =
+      let l = leads_parts rs (get_or hs j 0) front back (on_start rs hs f j s.sound inside) whole in
+      let st : Stands rs (get_or hs j 0) o b (first back) =
+      record { front = front; back = back; whole = whole; before = l.0; after = l.1; last = last; none = none } in
+      record {
+        stands = st;
+        before_fits = ends_within rs (get_or hs j 0) front (first back) b l.0 last;
+        here_fits = leads_within rs (first back) back l.1;
+        own = λ some. let w = some_left rs (first back) back l.1 some in ap (λ q. q.object) w.3.holds ∙ own w.0 w.1 w.2;
+        absent = λ gone. not_named o b (first back) st gone;
+      }
 
   module _ (o : ℕ) (p : Place) (found : Found s j o p) where
     abbrev b : ℕ
@@ -172,9 +167,6 @@ module _ (s : Chains) (out : OutputNumber) where
 
     abbrev st : Stands rs (get_or hs j 0) o b x
     st = found.stands
-
-    pub before_fits : b ≤ length rs
-    before_fits = omega (arith, before_within rs (get_or hs j 0) o b x st, v.rows)
 
     -- The chain does not name the object.
     pub nothing_freed : x ≡ 0 → (w : Version) → waiting_of s ≡ set (waiting_of s) j (freed o w (waiting_for s j))
@@ -209,33 +201,24 @@ module _ (s : Chains) (out : OutputNumber) where
       pub named : names o (waiting_for s j) ≡ true
       named = ap (names o) waiting_whole ∙ names_at o st.front here.0 here.1 y_own
 
-      -- the code has the record as r
-      module _ (r : Record) (is : r ≡ at rs x) (w : Version) where
-        y_version : r.version ≡ here.0.pair.version
-        y_version = ap (λ q. q.version) is ∙ ap (λ q. q.version) here.3.holds
+      -- the record is at rs x
+      module _ (w : Version) where
+        y_version : (at rs x).version ≡ here.0.pair.version
+        y_version = ap (λ q. q.version) here.3.holds
 
-        pub above_stays : w.0 < r.version.0 → waiting_of s ≡ set (waiting_of s) j (freed o w (waiting_for s j))
+        pub above_stays : w.0 < (at rs x).version.0 → waiting_of s ≡ set (waiting_of s) j (freed o w (waiting_for s j))
         above_stays l =
             let a = subst (λ u. w.0 < u.0) y_version l in
             waiting_same _ (ap (freed o w) waiting_whole ∙ freed_above o w st.front here.0 here.1 st.none not_after a ∙ sym waiting_whole)
 
-        -- the records and heads once what stood before x leads past it
-        module _ (rs1 : List Record) (hs1 : List ℕ) (r_is : rs1 ≡ linked_records rs b r.next) (h_is : hs1 ≡ linked_heads hs j b r.next) where
-          unlinked_view : View (relinked rs1 x f) hs1 x (set cs j (st.front ++ here.1)) (here.0 ∷ line rs f)
-          unlinked_view =
-              subst₂ (λ qs gs. View (relinked qs x f) gs x (set cs j (st.front ++ here.1)) (here.0 ∷ line rs f))
-              (sym (r_is ∙ ap (λ q. linked_records rs b q.next) is)) (sym (h_is ∙ ap (λ q. linked_heads hs j b q.next) is))
-              (view_unlinked rs hs f cs (line rs f) v j out.inside st.front here.0 here.1 b x line_whole st.before st.last
-              here.3 here.4)
-
-          pub unlinked_sound : Sound (relinked rs1 x f) hs1 x
-          unlinked_sound = sealed (relinked rs1 x f) hs1 x _ _ unlinked_view
-
-          pub unlinked_waiting : r.version.0 ≤ w.0 → waiting_in (relinked rs1 x f) hs1 ≡ set (waiting_of s) j (freed o w (waiting_for s j))
-          unlinked_waiting l =
-              let a = subst (λ u. u.0 ≤ w.0) y_version l in
-              waiting_set (relinked rs1 x f) hs1 x _ (st.front ++ here.1) unlinked_view
-              ∙ ap (set (waiting_of s) j) (sym (ap (freed o w) waiting_whole ∙ freed_at o w st.front here.0 here.1 st.none not_after y_own a))
+        pub unlinked : (at rs x).version.0 ≤ w.0
+            → Sound (relinked (linked_records rs b (at rs x).next) x f) (linked_heads hs j b (at rs x).next) x
+            × (waiting_in (relinked (linked_records rs b (at rs x).next) x f) (linked_heads hs j b (at rs x).next) ≡ set (waiting_of s) j (freed o w (waiting_for s j)))
+        unlinked l =
+            let a = subst (λ u. u.0 ≤ w.0) y_version l in
+            became _ _ x (here.0 ∷ line rs f) (st.front ++ here.1) _
+            (view_unlinked rs hs f cs (line rs f) v j inside st.front here.0 here.1 b x line_whole st.before st.last here.3 here.4)
+            (sym (ap (freed o w) waiting_whole ∙ freed_at o w st.front here.0 here.1 st.none not_after y_own a))
 
   -- A pair is queued.
   module _ (q : Pair) (p : Place) (found : Found s j q.object p) where
@@ -253,20 +236,14 @@ module _ (s : Chains) (out : OutputNumber) where
       abbrev zs : List Entry
       zs = (here q.object p found some).1
 
-      renewed_view : View (renewed rs p.here q.version) hs f (set cs j (front ++ (record { slot = y.slot; pair = q } ∷ zs))) (line rs f)
-      renewed_view =
-          subst (λ n. View (renewed rs p.here q.version) hs f (set cs j (front ++ (record { slot = y.slot; pair = record { object = n; version = q.version } } ∷ zs))) (line rs f))
+      pub renewed_queued : Sound (renewed rs p.here q.version) hs f
+          × (waiting_in (renewed rs p.here q.version) hs ≡ set (waiting_of s) j (queued q (waiting_for s j)))
+      renewed_queued =
+          became _ hs f (line rs f) (front ++ (record { slot = y.slot; pair = q } ∷ zs)) _
+          (subst (λ n. View (renewed rs p.here q.version) hs f (set cs j (front ++ (record { slot = y.slot; pair = record { object = n; version = q.version } } ∷ zs))) (line rs f))
           (y_own q.object p found some)
-          (view_renewed rs hs f cs (line rs f) v j out.inside p.here q.version front y zs (line_whole q.object p found some) at_place.before
-          (here q.object p found some).3 (here q.object p found some).4)
-
-      pub renewed_sound : Sound (renewed rs p.here q.version) hs f
-      renewed_sound = sealed (renewed rs p.here q.version) hs f _ _ renewed_view
-
-      pub renewed_waiting : waiting_in (renewed rs p.here q.version) hs ≡ set (waiting_of s) j (queued q (waiting_for s j))
-      renewed_waiting =
-          waiting_set (renewed rs p.here q.version) hs f _ _ renewed_view
-          ∙ ap (set (waiting_of s) j)
+          (view_renewed rs hs f cs (line rs f) v j inside p.here q.version front y zs (line_whole q.object p found some) at_place.before
+          (here q.object p found some).3 (here q.object p found some).4))
           (sym (ap (queued q) (waiting_whole q.object p found some) ∙ queued_at q front y zs at_place.none (y_own q.object p found some)))
 
     -- The chain does not name its object: a free record ends the chain.
@@ -280,26 +257,11 @@ module _ (s : Chains) (out : OutputNumber) where
       line_front : get_or cs j [] ≡ front
       line_front = line_at rs hs j top ∙ whole_front q.object p.before p.here at_place gone
 
-      appended : List Entry
-      appended = get_or cs j [] ++ (record { slot = y_free.slot; pair = q } ∷ [])
-
-      appended_pairs : pairs_along appended ≡ queued q (waiting_for s j)
-      unfolding appended
-      appended_pairs =
-          map-append (λ (y : Entry). y.pair) (get_or cs j []) _ ∙ ap (λ es. pairs_along es ++ (q ∷ [])) line_front
-          ∙ sym (queued_none q front at_place.none) ∙ ap (queued q) (sym (waiting_front q.object p.before p.here at_place gone))
-
-      module _ (rs1 : List Record) (hs1 : List ℕ) (r_is : rs1 ≡ linked_records (filled rs f q) p.before f) (h_is : hs1 ≡ linked_heads hs j p.before f) where
-        appended_view : View rs1 hs1 (at rs f).next (set cs j appended) gs
-        unfolding appended
-        appended_view =
-            subst₂ (λ qs ks. View qs ks (at rs f).next (set cs j appended) gs) (sym r_is) (sym h_is)
-            (view_appended rs hs f cs (line rs f) v j out.inside y_free gs (next some).2 (next some).3 (next some).4 q p.before
-            (subst (λ es. Ends es p.before) (sym line_front) at_place.last) (ap (naming q.object) line_front ∙ at_place.none))
-
-        pub appended_sound : Sound rs1 hs1 (at rs f).next
-        appended_sound = sealed rs1 hs1 (at rs f).next _ _ appended_view
-
-        pub appended_waiting : waiting_in rs1 hs1 ≡ set (waiting_of s) j (queued q (waiting_for s j))
-        appended_waiting =
-            waiting_set rs1 hs1 (at rs f).next gs appended appended_view ∙ ap (set (waiting_of s) j) appended_pairs
+      pub appended : Sound (linked_records (filled rs f q) p.before f) (linked_heads hs j p.before f) (at rs f).next
+          × (waiting_in (linked_records (filled rs f q) p.before f) (linked_heads hs j p.before f) ≡ set (waiting_of s) j (queued q (waiting_for s j)))
+      appended =
+          became _ _ (at rs f).next gs (get_or cs j [] ++ (record { slot = y_free.slot; pair = q } ∷ [])) _
+          (view_appended rs hs f cs (line rs f) v j inside y_free gs (next some).2 (next some).3 (next some).4 q p.before
+          (subst (λ es. Ends es p.before) (sym line_front) at_place.last) (ap (naming q.object) line_front ∙ at_place.none))
+          (map-append (λ (y : Entry). y.pair) (get_or cs j []) _ ∙ ap (λ es. pairs_along es ++ (q ∷ [])) line_front
+          ∙ sym (queued_none q front at_place.none) ∙ ap (queued q) (sym (waiting_front q.object p.before p.here at_place gone)))

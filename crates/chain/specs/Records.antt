@@ -1,8 +1,9 @@
 -- Records that lie in one array and lead from one to the next by their numbers. Numbers count from 1, and 0 ends a line of
 -- records. Each chain of waiting invalidations is such a line, and the free records are one more.
-use Rattle.std.specs.Prelude.{◌≡◌, ℕ, zero, suc, ◌+◌, ◌-◌, ◌<◌, ◌≤◌, cond, ◌⊎◌, List, [], ◌∷◌, ◌++◌, map, length, ◌==◌, nat_lt, slice_index_or, slice_set}
+use Rattle.std.specs.Prelude.{◌≡◌, ℕ, zero, suc, ◌+◌, ◌-◌, ◌<◌, ◌≤◌, cond, ◌⊎◌, List, [], ◌∷◌, ◌++◌, map, length, ◌==◌, slice_index_or, slice_set}
 use Rattle.numbers.specs.Numbers.{none, records}
 use Rattle.rules.specs.declared.pairs.Pair.{Pair}
+use Rattle.chain.specs.declared.record.Entry.{Entry}
 use Rattle.chain.specs.declared.record.Record.{Record}
 
 abbrev pub blank : Record
@@ -16,10 +17,6 @@ at rs i = slice_index_or rs (i - 1) blank
 abbrev pub pair_in : Record → Pair
 pair_in r = record { object = r.object; version = r.version }
 
--- the number after a free one, where all are free
-abbrev pub next_free : ℕ → ℕ
-next_free i = cond (nat_lt i records) (i + 1) 0
-
 -- record number i now leads to number n
 abbrev pub relinked : List Record → ℕ → ℕ → List Record
 relinked rs i n = slice_set rs (i - 1) (record { version = (at rs i).version; object = (at rs i).object; next = n })
@@ -30,11 +27,6 @@ linked_records rs b n = cond (b == 0) rs (relinked rs b n)
 
 abbrev pub linked_heads : List ℕ → ℕ → ℕ → ℕ → List ℕ
 linked_heads hs j b n = cond (b == 0) (slice_set hs j n) hs
-
--- a record's number, and the pair in it
-pub record Entry : Type 0 where
-  pub slot : ℕ
-  pub pair : Pair
 
 abbrev pub entry : List Record → ℕ → Entry
 entry rs i = record { slot = i; pair = pair_in (at rs i) }

@@ -1,9 +1,10 @@
 -- What the records mean: for each output server the pairs that wait for it, in order.
-use Rattle.std.specs.Prelude.{◌≡◌, ℕ, ◌<◌, Bool, true, false, List, [], map, nat_lt, slice_index, slice_index_or, slice_set}
+use Rattle.std.specs.Prelude.{◌≡◌, ℕ, ◌<◌, ◌≤◌, Bool, true, false, List, [], map, nat_lt, slice_index, slice_index_or, slice_set}
 use Rattle.numbers.specs.Numbers.{records}
 use Rattle.rules.specs.declared.pairs.Pair.{Pair}
 use Rattle.rules.specs.Input.{names, queued, used, fits}
-use Rattle.chain.specs.Records.{at, Entry, line, On, Stands}
+use Rattle.chain.specs.declared.record.Entry.{Entry}
+use Rattle.chain.specs.Records.{at, line, Stands}
 use Rattle.chain.specs.declared.chains.Chains.{Chains}
 use Rattle.chain.specs.declared.chains.walk.Place.{Place}
 use Rattle.chain.specs.declared.queued.Queued.{Queued}
@@ -33,7 +34,8 @@ has_free cs = nat_lt (used cs) records
 -- the place of the record that names object o in the chain of output server j, or the place behind the last record if none does
 pub record Found (c : Chains) (j o : ℕ) (p : Place) : Type 0 where
   pub stands : Stands c.records (slice_index c.heads j) o p.before p.here
-  pub on : On c.records p.here
+  pub before_fits : p.before ≤ records
+  pub here_fits : p.here ≤ records
   pub own : 0 < p.here → (at c.records p.here).object ≡ o
   pub absent : p.here ≡ 0 → names o (waiting_for c j) ≡ false
 

@@ -10,6 +10,9 @@ const OUTPUTS: usize = 8;
 
 // The invalidations that wait for each output server, in chains that share the records. The free
 // records form one more chain, so that taking one and giving one back are a step each.
+//
+// No heap on a mast: records are chained by number in fixed memory, and number 0 ends a chain, so
+// that a record takes eight bytes, and a head one.
 #[derive(Drop)]
 pub struct Chains {
     records: [Record; RECORDS],

@@ -1,6 +1,3 @@
-ghost use Rattle.std.specs.Prelude.{◌≡◌, ◌==◌};
-ghost use Rattle.chain.specs.Records.{pair_in};
-
 use numbers::Version;
 use rules::Pair;
 
@@ -20,26 +17,9 @@ pub struct Record {
     pub next: u8,
 }
 
-impl Record {
-    pub const UNUSED: Record = Record {
-        version: Version::NONE,
-        object: 0,
-        next: END,
-    };
-
-    // Whether it waits for that object.
-    pub fn names(self, object: u8) -> bool
-        ensures { result ≡ (self.object == object) }
-    {
-        self.object == object
-    }
-
-    pub fn pair(self) -> Pair
-        ensures { result ≡ pair_in self }
-    {
-        Pair {
-            object: self.object,
-            version: self.version,
-        }
-    }
+// A record's number, and the pair in it.
+#[derive(Clone, Copy)]
+pub struct Entry {
+    pub slot: u8,
+    pub pair: Pair,
 }

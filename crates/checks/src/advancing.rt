@@ -32,29 +32,19 @@ pub fn check_advance(
 pub fn stays(clock: Time, increment: u64) -> bool
     ensures { result ≡ nat_le (clock.0 + increment) last_time }
 {
-    clock.0 <= Time::LAST.0 && increment <= Time::LAST.0 - clock.0
+    clock <= Time::LAST && increment <= Time::LAST.0 - clock.0
 }
 
 // Whether `x` keeps up with each of the increments.
 fn keeps_with(drift: Drift, x: u64, increments: &[u64]) -> bool
     ensures { result ≡ keeps_with drift.thousandths x increments.now }
 {
-    for y in increments {
-        if !drift.keeps(x, *y) {
-            return false;
-        }
-    }
-    true
+    increments.iter().all(|y| drift.keeps(x, *y))
 }
 
 // Whether each of the increments keeps up with each.
 pub fn keeps_drift(drift: Drift, increments: &[u64]) -> bool
     ensures { result ≡ keeps_drift drift.thousandths increments.now }
 {
-    for x in increments {
-        if !keeps_with(drift, *x, increments) {
-            return false;
-        }
-    }
-    true
+    increments.iter().all(|x| keeps_with(drift, *x, increments))
 }

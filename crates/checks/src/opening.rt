@@ -1,6 +1,5 @@
 // The tests of an opening.
-ghost use Rattle.std.specs.Prelude.{◌≡◌, nat_le};
-ghost use Rattle.numbers.specs.Numbers.{last_time};
+ghost use Rattle.std.specs.Prelude.{◌≡◌};
 ghost use Rattle.rules.specs.Calls.{clocks_fit};
 ghost use Rattle.checks.specs.Refused.{refusal_said, opening_refusal};
 
@@ -16,23 +15,11 @@ pub struct Opening {
     pub drift: u64,
 }
 
-// Whether a clock can show that time.
-fn is_shown(time: Time) -> bool
-    ensures { result ≡ nat_le time.0 last_time }
-{
-    time.0 <= Time::LAST.0
-}
-
 // Whether every start clock can be shown.
 fn clocks_fit(clocks: &[Time]) -> bool
     ensures { result ≡ clocks_fit clocks.now }
 {
-    for clock in clocks {
-        if !is_shown(*clock) {
-            return false;
-        }
-    }
-    true
+    clocks.iter().all(|clock| *clock <= Time::LAST)
 }
 
 // The first refusal that an opening meets.

@@ -1,5 +1,5 @@
 -- Advancing: what its tests say, and what it leaves.
-use Rattle.std.proofs.Common.{◌≡◌, ℕ, zero, suc, ◌+◌, ◌<◌, ◌≤◌, Bool, true, false, cond, not, ◌&&◌, eqb, leb, List, [], length, get_or, set, sym, refl, ap, ◌∙◌, subst, add-one, arith}
+use Rattle.std.proofs.Common.{◌≡◌, ℕ, zero, suc, ◌+◌, ◌<◌, ◌≤◌, Bool, true, false, cond, not, ◌&&◌, eqb, leb, List, length, get_or, Ok, Err, Result, IsOk, sym, refl, ap, ◌∙◌, subst, add-one, arith}
 use Rattle.std.proofs.lemmas.List.{get_or-set_other}
 use Rattle.std.proofs.lemmas.Bool.{and_parts, cond-true, not-false, eqb-true, eqb-false}
 use Rattle.quorum.specs.declared.refusal.Refusal.{Refusal}
@@ -11,7 +11,8 @@ use Rattle.rules.specs.Input.{Input, later_input}
 use Rattle.rules.specs.Output.{Output, later_output}
 use Rattle.guarantee.proofs.CallSteps.{inputs_only}
 use Rattle.rules.specs.State.{Frame, State, accepted, Outcome, outcome, refuse, no_input, no_output, input_at, output_at, with_input, with_output}
-use Rattle.rules.specs.Steps.{Step, made_now, refused}
+use Rattle.rules.specs.declared.message.Message.{Message}
+use Rattle.rules.specs.Steps.{Step, step_says, made_now}
 use Rattle.servers.specs.Events.{input_tick, output_tick}
 use Rattle.field.specs.Checked.{advance_check}
 use Rattle.field.proofs.Calling.{later_tests, later_passed}
@@ -19,33 +20,22 @@ use Rattle.field.proofs.Refusing.{decide, refuses_first, passes_first, call_refu
 
 -- ---- one clock
 
-pub input_ticks_not : (increment number : ℕ) (I : Input) → leb (I.clock.0 + increment) last_time ≡ true → refused number ≡ (input_tick increment I 0 []).said → ⊥
-input_ticks_not increment number I e f =
-    let g : refused number ≡ made_now 0 = f ∙ ap (λ (x : Step Input). x.said) (cond-true (leb (I.clock.0 + increment) last_time) _ _ e) in
-    let z : ◌≡◌ {A = ℕ} 0 1 = cc in omega arith
+-- a clock that stays within the last time is not refused
+pub input_ticks : (increment i j made : ℕ) (log : List Message) (ins : List Input) → j ≡ i → leb ((get_or ins i no_input).clock.0 + increment) last_time ≡ true
+    → (input_tick increment (get_or ins j no_input) made log).said ≡ made_now made
+input_ticks increment i j made log ins same stays =
+    ap (λ (k : ℕ). (input_tick increment (get_or ins k no_input) made log).said) same
+    ∙ ap (λ (x : Step Input). x.said) (cond-true (leb ((get_or ins i no_input).clock.0 + increment) last_time) _ _ stays)
 
-pub output_ticks_not : (increment number : ℕ) (O : Output) → leb (O.clock.0 + increment) last_time ≡ true → refused number ≡ (output_tick increment O 0 []).said → ⊥
-output_ticks_not increment number O e f =
-    let g : refused number ≡ made_now 0 = f ∙ ap (λ (x : Step Output). x.said) (cond-true (leb (O.clock.0 + increment) last_time) _ _ e) in
-    let z : ◌≡◌ {A = ℕ} 0 1 = cc in omega arith
+pub output_ticks : (increment i j made : ℕ) (log : List Message) (outs : List Output) → j ≡ i → leb ((get_or outs i no_output).clock.0 + increment) last_time ≡ true
+    → (output_tick increment (get_or outs j no_output) made log).said ≡ made_now made
+output_ticks increment i j made log outs same stays =
+    ap (λ (k : ℕ). (output_tick increment (get_or outs k no_output) made log).said) same
+    ∙ ap (λ (x : Step Output). x.said) (cond-true (leb ((get_or outs i no_output).clock.0 + increment) last_time) _ _ stays)
 
-pub input_ticked : (increment i j : ℕ) (ins : List Input) (s : State) → j ≡ i → leb ((input_at s i).clock.0 + increment) last_time ≡ true
-    → ins ≡ set s.inputs j (input_tick increment (get_or s.inputs j no_input) 0 []).server
-    → ◌≡◌ {A = State} (record { frame = s.frame; made = s.made; begun = s.begun; inputs = ins; outputs = s.outputs; log = s.log; table = s.table })
-    (with_input i (later_input increment (input_at s i)) s)
-input_ticked increment i j ins s same stays e =
-    let a = e ∙ ap (λ (k : ℕ). set s.inputs k (input_tick increment (get_or s.inputs k no_input) 0 []).server) same
-    ∙ ap (λ (x : Step Input). set s.inputs i x.server) (cond-true (leb ((input_at s i).clock.0 + increment) last_time) _ _ stays) in
-    λ t. record { frame = s.frame; made = s.made; begun = s.begun; inputs = a t; outputs = s.outputs; log = s.log; table = s.table }
-
-pub output_ticked : (increment i j : ℕ) (outs : List Output) (s : State) → j ≡ i → leb ((output_at s i).clock.0 + increment) last_time ≡ true
-    → outs ≡ set s.outputs j (output_tick increment (get_or s.outputs j no_output) 0 []).server
-    → ◌≡◌ {A = State} (record { frame = s.frame; made = s.made; begun = s.begun; inputs = s.inputs; outputs = outs; log = s.log; table = s.table })
-    (with_output i (later_output increment (output_at s i)) s)
-output_ticked increment i j outs s same stays e =
-    let a = e ∙ ap (λ (k : ℕ). set s.outputs k (output_tick increment (get_or s.outputs k no_output) 0 []).server) same
-    ∙ ap (λ (x : Step Output). set s.outputs i x.server) (cond-true (leb ((output_at s i).clock.0 + increment) last_time) _ _ stays) in
-    λ t. record { frame = s.frame; made = s.made; begun = s.begun; inputs = s.inputs; outputs = a t; log = s.log; table = s.table }
+pub is_taken : (r : Result (Unit {0}) Refusal) (made k : ℕ) → step_says made r ≡ made_now k → IsOk r
+is_taken (Ok u) made k e = refl
+is_taken (Err x) made k e = let z : ◌≡◌ {A = ℕ} 0 1 = cc in absurd (omega arith)
 
 -- ---- all clocks: what stays to be moved
 

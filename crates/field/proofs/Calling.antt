@@ -33,21 +33,21 @@ pub record Lent (i o : System) (f : Interior) (log : List Message) (table : List
   pub is_open : f.is_open ≡ true
   pub log_as : length log ≡ f.log_len
   pub table_as : length table ≡ f.table_len
-  pub inputs_as : i.count ≡ f.input_count.count
-  pub outputs_as : o.count ≡ f.output_count.count
+  pub inputs_as : i.count ≡ f.input_count.number
+  pub outputs_as : o.count ≡ f.output_count.number
 
 pub lent_of : (i o : System) (f : Interior) (log : List Message) (table : List Operation) → f.is_open ≡ true → as_opened i o (state_of f log table) ≡ true
     → Lent i o f log table
 lent_of i o f log table a b =
     let p = and_parts (eqb (length log) f.log_len) _ b in
     let q = and_parts (eqb (length (map operation_of table)) f.table_len) _ p.1 in
-    let r = and_parts (eqb i.count f.input_count.count) (eqb o.count f.output_count.count) q.1 in
+    let r = and_parts (eqb i.count f.input_count.number) (eqb o.count f.output_count.number) q.1 in
     record {
       is_open = a;
       log_as = eqb-true (length log) f.log_len p.0;
       table_as = sym (length-map table operation_of) ∙ eqb-true (length (map operation_of table)) f.table_len q.0;
-      inputs_as = eqb-true i.count f.input_count.count r.0;
-      outputs_as = eqb-true o.count f.output_count.count r.1;
+      inputs_as = eqb-true i.count f.input_count.number r.0;
+      outputs_as = eqb-true o.count f.output_count.number r.1;
     }
 
 pub later_tests : (i o : System) (s : State) (rest : ℕ) (y Y : Outcome) → y ≡ decide rest Y s

@@ -52,7 +52,7 @@ module _ (i o : System) (f : Interior) (log : List Message) (table : List Operat
       let v = and_parts (between 1 f.begun p) (state_fits (frame_of f).counts p (place_of table p)) u.0 in
       record {
         begun = inside p v.0;
-        accepts = clock_accepted i o (frame_of f).counts d.inputs_as d.outputs_as f.input_count.inside f.output_count.inside d.ready.objects
+        accepts = clock_accepted i o (frame_of f).counts d.inputs_as d.outputs_as (omega (arith, f.input_count.inside)) (omega (arith, f.output_count.inside)) d.ready.objects
             f.begun d.few p (place_of table p) k c t.0 t.1;
         own = fits_is_of (frame_of f).counts p (place_of table p) v.1;
       }
@@ -63,7 +63,7 @@ module _ (i o : System) (f : Interior) (log : List Message) (table : List Operat
       let v = and_parts (between 1 f.begun p) (state_fits (frame_of f).counts p (place_of table p)) t.1 in
       record {
         begun = inside p v.0;
-        accepts = named_accepted i o (frame_of f).counts d.inputs_as d.outputs_as f.input_count.inside f.output_count.inside d.ready.objects
+        accepts = named_accepted i o (frame_of f).counts d.inputs_as d.outputs_as (omega (arith, f.input_count.inside)) (omega (arith, f.output_count.inside)) d.ready.objects
             f.begun d.few p (place_of table p) k s t.0 t.1;
         own = fits_is_of (frame_of f).counts p (place_of table p) v.1;
       }
@@ -74,7 +74,7 @@ module _ (i o : System) (f : Interior) (log : List Message) (table : List Operat
       let v = and_parts (between 1 f.begun p) (state_fits (frame_of f).counts p (place_of table p)) t.1 in
       record {
         begun = inside p v.0;
-        accepts = pair_accepted i o (frame_of f).counts d.inputs_as d.outputs_as f.input_count.inside f.output_count.inside d.ready.objects
+        accepts = pair_accepted i o (frame_of f).counts d.inputs_as d.outputs_as (omega (arith, f.input_count.inside)) (omega (arith, f.output_count.inside)) d.ready.objects
             f.begun d.few p (place_of table p) j w x t.0 t.1;
         own = fits_is_of (frame_of f).counts p (place_of table p) v.1;
       }

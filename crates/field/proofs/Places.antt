@@ -53,16 +53,16 @@ clock_left i k p c ended s e = ap quiet (same_place p ended s e ∙ none_posted 
 pub clock_leaves : (i o : System) (k p c : ℕ) (f g : Interior) (log log' : List Message) (table : List Code.Operation) (u before after : Code.Operation)
     → operation_of before ≡ place_of table p
     → operation_of after ≡ clock_place i (ClockAnswer k p c) (operation_of before)
-    → ((t : List Code.Operation) → state_of g log' t ≡ post (clock_sends f.input_count.count i (ClockAnswer k p c) (operation_of before)) (state_of f log t))
+    → ((t : List Code.Operation) → state_of g log' t ≡ post (clock_sends f.input_count.number i (ClockAnswer k p c) (operation_of before)) (state_of f log t))
     → receives i o (ClockAnswer k p c) (state_of f log table) ≡ quiet (state_of g log' (set (set table (p - 1) u) (p - 1) after))
 unfolding receives
 clock_leaves i o k p c f g log log' table u before after was place sends =
     let s = state_of f log table in
     let m = ClockAnswer k p c in
     clock_left i k p c (operation_at s p) s refl
-    ∙ ap (λ (x : Operation). quiet (post (clock_sends f.input_count.count i m x) (with_operation p (clock_place i m x) s))) (sym was)
-    ∙ ap (λ (x : Operation). quiet (post (clock_sends f.input_count.count i m (operation_of before)) (with_operation p x s))) (sym place)
-    ∙ (λ z. quiet (post (clock_sends f.input_count.count i m (operation_of before)) (record {
+    ∙ ap (λ (x : Operation). quiet (post (clock_sends f.input_count.number i m x) (with_operation p (clock_place i m x) s))) (sym was)
+    ∙ ap (λ (x : Operation). quiet (post (clock_sends f.input_count.number i m (operation_of before)) (with_operation p x s))) (sym place)
+    ∙ (λ z. quiet (post (clock_sends f.input_count.number i m (operation_of before)) (record {
       frame = s.frame;
       made = s.made;
       begun = s.begun;

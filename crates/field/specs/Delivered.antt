@@ -16,8 +16,8 @@ numbered log k = slice_index_or log (k - 1) no_message
 -- what the tests of a delivery have found
 pub record Deliverable (inputs outputs : System) (f : Interior) (log : List Message) (table : List Operation) (number : ℕ) : Type 0 where
   pub ready : Ready f log
-  pub inputs_as : inputs.count ≡ f.input_count.count
-  pub outputs_as : outputs.count ≡ f.output_count.count
+  pub inputs_as : inputs.count ≡ f.input_count.number
+  pub outputs_as : outputs.count ≡ f.output_count.number
   pub begun : f.begun ≤ length table
   pub few : f.begun ≤ 1024
   pub low : 1 ≤ number

@@ -10,7 +10,7 @@ use Rattle.field.specs.declared.interior.Interior.{Interior}
 abbrev pub frame_of : Interior → Frame
 frame_of f = record {
   is_open = f.is_open;
-  counts = record { n = f.input_count.count; m = f.output_count.count; k = f.objects };
+  counts = record { n = f.input_count.number; m = f.output_count.number; k = f.objects };
   lease = f.lease.micros;
   drift = f.drift.thousandths;
   log_length = f.log_len;

@@ -17,8 +17,8 @@ use crate::interior::Interior;
 use crate::reaching::{input_number, output_number};
 use checks::{check_advance, keeps_drift, stays};
 use operation::Operation;
-use quorum::{QuorumSystem, Refusal};
-use rules::Message;
+use quorum::{QuorumSystem, Refusal, Systems};
+use rules::{Log, Message};
 use servers::{InputTick, OutputTick};
 
 impl Interior {
@@ -27,14 +27,13 @@ impl Interior {
         &mut self,
         log: &[Message],
         table: &[Operation],
-        inputs: &I,
-        outputs: &O,
+        systems: &Systems<I, O>,
         increments: &[u64],
     ) -> Result<(), Refusal>
-        ensures does { advancing (I.QuorumSystem.meaning inputs.now) (O.QuorumSystem.meaning outputs.now) increments.now (state_of self.old log.now table.now) ≡ outcome (acceptance result) (state_of self.new log.now table.now) }
+        ensures does { advancing (I.QuorumSystem.meaning systems.now.inputs) (O.QuorumSystem.meaning systems.now.outputs) increments.now (state_of self.old log.now table.now) ≡ outcome (acceptance result) (state_of self.new log.now table.now) }
         ensures same { is_ok result ≡ false → self.new ≡ self.old }
     {
-        self.check_increments(log, table, inputs, outputs, increments)?;
+        self.check_increments(log, table, systems, increments)?;
         if !self.clocks_stay(increments) {
             return Err(Refusal::PastLastTime);
         }
@@ -50,29 +49,29 @@ impl Interior {
         &self,
         log: &[Message],
         table: &[Operation],
-        inputs: &I,
-        outputs: &O,
+        systems: &Systems<I, O>,
         increments: &[u64],
     ) -> Result<(), Refusal>
-        ensures { refusal_said result ≡ advance_check (I.QuorumSystem.meaning inputs.now) (O.QuorumSystem.meaning outputs.now) (length increments.now) (state_of self.now log.now table.now) }
+        ensures { refusal_said result ≡ advance_check (I.QuorumSystem.meaning systems.now.inputs) (O.QuorumSystem.meaning systems.now.outputs) (length increments.now) (state_of self.now log.now table.now) }
     {
-        let as_opened = self.is_as_opened(log.len(), table.len(), inputs.count(), outputs.count());
-        let servers = self.input_count.get() as usize + self.output_count.get() as usize;
+        let (n, m) = (systems.inputs.count(), systems.outputs.count());
+        let as_opened = self.is_as_opened(log.len(), table.len(), n, m);
+        let servers = self.input_count.index() + self.output_count.index();
         check_advance(self.is_open, as_opened, increments.len(), servers)
     }
 
     // Whether no clock would pass the last time.
     fn clocks_stay(&self, increments: &[u64]) -> bool
-        requires { self.now.input_count.count + self.now.output_count.count ≤ length increments.now }
-        ensures { (log : List AnyMessage) (t : List Place) → result ≡ (inputs_stay increments.now self.now.input_count.count (state_of self.now log t) && outputs_stay increments.now self.now.output_count.count (state_of self.now log t)) }
+        requires { self.now.input_count.number + self.now.output_count.number ≤ length increments.now }
+        ensures { (log : List AnyMessage) (t : List Place) → result ≡ (inputs_stay increments.now self.now.input_count.number (state_of self.now log t) && outputs_stay increments.now self.now.output_count.number (state_of self.now log t)) }
     {
         self.inputs_stay(increments) && self.outputs_stay(increments)
     }
 
     // Of the input servers, whose increments come first.
     fn inputs_stay(&self, increments: &[u64]) -> bool
-        requires { self.now.input_count.count ≤ length increments.now }
-        ensures { (log : List AnyMessage) (t : List Place) → result ≡ inputs_stay increments.now self.now.input_count.count (state_of self.now log t) }
+        requires { self.now.input_count.number ≤ length increments.now }
+        ensures { (log : List AnyMessage) (t : List Place) → result ≡ inputs_stay increments.now self.now.input_count.number (state_of self.now log t) }
     {
         let mut stay = true;
         for input in 0..self.input_count.get() {
@@ -90,10 +89,10 @@ impl Interior {
 
     // Of the output servers, whose increments come after those.
     fn outputs_stay(&self, increments: &[u64]) -> bool
-        requires { self.now.input_count.count + self.now.output_count.count ≤ length increments.now }
-        ensures { (log : List AnyMessage) (t : List Place) → result ≡ outputs_stay increments.now self.now.output_count.count (state_of self.now log t) }
+        requires { self.now.input_count.number + self.now.output_count.number ≤ length increments.now }
+        ensures { (log : List AnyMessage) (t : List Place) → result ≡ outputs_stay increments.now self.now.output_count.number (state_of self.now log t) }
     {
-        let first = self.input_count.get() as usize;
+        let first = self.input_count.index();
         let mut stay = true;
         for output in 0..self.output_count.get() {
             stay = self.and_output_stays(stay, output, increments[first + output as usize]);
@@ -109,9 +108,9 @@ impl Interior {
     }
 
     fn tick_inputs(&mut self, increments: &[u64])
-        requires long { self.old.input_count.count ≤ length increments.now }
-        requires stay { (log : List AnyMessage) (t : List Place) → inputs_stay increments.now self.old.input_count.count (state_of self.old log t) ≡ true }
-        ensures { (log : List AnyMessage) (t : List Place) → state_of self.new log t ≡ later_inputs increments.now self.old.input_count.count (state_of self.old log t) }
+        requires long { self.old.input_count.number ≤ length increments.now }
+        requires stay { (log : List AnyMessage) (t : List Place) → inputs_stay increments.now self.old.input_count.number (state_of self.old log t) ≡ true }
+        ensures { (log : List AnyMessage) (t : List Place) → state_of self.new log t ≡ later_inputs increments.now self.old.input_count.number (state_of self.old log t) }
     {
         for input in 0..self.input_count.get() {
             self.tick_input(input, increments[input as usize]);
@@ -123,21 +122,21 @@ impl Interior {
         requires stays { (log : List AnyMessage) (t : List Place) → nat_le ((input_at (state_of self.old log t) input).clock.0 + increment) last_time ≡ true }
         ensures { (log : List AnyMessage) (t : List Place) → state_of self.new log t ≡ with_input input (later_input increment (input_at (state_of self.old log t) input)) (state_of self.old log t) }
     {
-        match self
-            .inputs
-            .change(input_number(input), InputTick { increment }, &mut [], 0)
-        {
-            Ok(_) => {}
-            Err(_) => unreachable(),
-        }
+        self.inputs
+            .change(
+                input_number(input),
+                InputTick { increment },
+                &mut Log::new(&mut [], 0),
+            )
+            .unwrap();
     }
 
     fn tick_outputs(&mut self, increments: &[u64])
-        requires long { self.old.input_count.count + self.old.output_count.count ≤ length increments.now }
-        requires stay { (log : List AnyMessage) (t : List Place) → outputs_stay increments.now self.old.output_count.count (state_of self.old log t) ≡ true }
-        ensures { (log : List AnyMessage) (t : List Place) → state_of self.new log t ≡ later_outputs increments.now self.old.input_count.count self.old.output_count.count (state_of self.old log t) }
+        requires long { self.old.input_count.number + self.old.output_count.number ≤ length increments.now }
+        requires stay { (log : List AnyMessage) (t : List Place) → outputs_stay increments.now self.old.output_count.number (state_of self.old log t) ≡ true }
+        ensures { (log : List AnyMessage) (t : List Place) → state_of self.new log t ≡ later_outputs increments.now self.old.input_count.number self.old.output_count.number (state_of self.old log t) }
     {
-        let first = self.input_count.get() as usize;
+        let first = self.input_count.index();
         for output in 0..self.output_count.get() {
             self.tick_output(output, increments[first + output as usize]);
         }
@@ -148,9 +147,12 @@ impl Interior {
         requires stays { (log : List AnyMessage) (t : List Place) → nat_le ((output_at (state_of self.old log t) output).clock.0 + increment) last_time ≡ true }
         ensures { (log : List AnyMessage) (t : List Place) → state_of self.new log t ≡ with_output output (later_output increment (output_at (state_of self.old log t) output)) (state_of self.old log t) }
     {
-        match self.outputs.change(output_number(output), OutputTick { increment }, &mut [], 0) {
-            Ok(_) => {}
-            Err(_) => unreachable(),
-        }
+        self.outputs
+            .change(
+                output_number(output),
+                OutputTick { increment },
+                &mut Log::new(&mut [], 0),
+            )
+            .unwrap();
     }
 }

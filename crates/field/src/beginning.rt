@@ -14,7 +14,7 @@ use crate::interior::Interior;
 use crate::logging::{ClockQuestions, ReadRequests};
 use checks::check_beginning;
 use operation::{AskingWrite, Operation, Read};
-use quorum::{QuorumSystem, Refusal};
+use quorum::{QuorumSystem, Refusal, Systems};
 use rules::{Message, has_room};
 
 impl Interior {
@@ -23,16 +23,15 @@ impl Interior {
         &mut self,
         log: &mut [Message],
         table: &mut [Operation],
-        inputs: &I,
-        outputs: &O,
+        systems: &Systems<I, O>,
         object: u64,
         value: u64,
     ) -> Result<u16, Refusal>
         requires { Sound self.old }
-        ensures does { beginning_write (I.QuorumSystem.meaning inputs.now) (O.QuorumSystem.meaning outputs.now) object value (state_of self.old log.old table.old) ≡ outcome (beginning_says result) (state_of self.new log.new table.new) }
+        ensures does { beginning_write (I.QuorumSystem.meaning systems.now.inputs) (O.QuorumSystem.meaning systems.now.outputs) object value (state_of self.old log.old table.old) ≡ outcome (beginning_says result) (state_of self.new log.new table.new) }
         ensures same { is_ok result ≡ false → (self.new ≡ self.old) × (log.new ≡ log.old) × (table.new ≡ table.old) }
     {
-        self.check_object(log, table, inputs, outputs, object)?;
+        self.check_object(log, table, systems, object)?;
         let operation = self.begun + 1;
         let write = AskingWrite::new(operation, object as u8, value);
         self.enter(table, Operation::Asking(write));
@@ -45,15 +44,14 @@ impl Interior {
         &mut self,
         log: &mut [Message],
         table: &mut [Operation],
-        inputs: &I,
-        outputs: &O,
+        systems: &Systems<I, O>,
         object: u64,
     ) -> Result<u16, Refusal>
         requires { Sound self.old }
-        ensures does { beginning_read (I.QuorumSystem.meaning inputs.now) (O.QuorumSystem.meaning outputs.now) object (state_of self.old log.old table.old) ≡ outcome (beginning_says result) (state_of self.new log.new table.new) }
+        ensures does { beginning_read (I.QuorumSystem.meaning systems.now.inputs) (O.QuorumSystem.meaning systems.now.outputs) object (state_of self.old log.old table.old) ≡ outcome (beginning_says result) (state_of self.new log.new table.new) }
         ensures same { is_ok result ≡ false → (self.new ≡ self.old) × (log.new ≡ log.old) × (table.new ≡ table.old) }
     {
-        self.check_object(log, table, inputs, outputs, object)?;
+        self.check_object(log, table, systems, object)?;
         let operation = self.begun + 1;
         let read = Read::new(operation, object as u8);
         let requests = ReadRequests {
@@ -69,13 +67,13 @@ impl Interior {
         &self,
         log: &[Message],
         table: &[Operation],
-        inputs: &I,
-        outputs: &O,
+        systems: &Systems<I, O>,
         object: u64,
     ) -> Result<(), Refusal>
-        ensures { refusal_said result ≡ beginning_check (I.QuorumSystem.meaning inputs.now) (O.QuorumSystem.meaning outputs.now) object (state_of self.now log.now table.now) }
+        ensures { refusal_said result ≡ beginning_check (I.QuorumSystem.meaning systems.now.inputs) (O.QuorumSystem.meaning systems.now.outputs) object (state_of self.now log.now table.now) }
     {
-        let as_opened = self.is_as_opened(log.len(), table.len(), inputs.count(), outputs.count());
+        let (n, m) = (systems.inputs.count(), systems.outputs.count());
+        let as_opened = self.is_as_opened(log.len(), table.len(), n, m);
         let room = has_room(log, self.made);
         check_beginning(
             self.is_open,

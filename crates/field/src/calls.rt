@@ -15,7 +15,7 @@ use crate::field::Field;
 use checks::Opening;
 use numbers::Time;
 use operation::Operation;
-use quorum::{QuorumSystem, Refusal};
+use quorum::{QuorumSystem, Refusal, Systems};
 use rules::{Delivery, Message};
 
 impl Field {
@@ -25,17 +25,15 @@ impl Field {
         &mut self,
         log: &[Message],
         table: &[Operation],
-        inputs: &I,
-        outputs: &O,
+        systems: &Systems<I, O>,
         opening: Opening,
         clocks: &[Time],
     ) -> Result<(), Refusal>
-        ensures does { opening_of (I.QuorumSystem.meaning inputs.now) (O.QuorumSystem.meaning outputs.now) opening.objects opening.lease opening.drift clocks.now (state_of self.old.interior log.now table.now) ≡ outcome (acceptance result) (state_of self.new.interior log.now table.now) }
+        ensures does { opening_of (I.QuorumSystem.meaning systems.now.inputs) (O.QuorumSystem.meaning systems.now.outputs) opening.objects opening.lease opening.drift clocks.now (state_of self.old.interior log.now table.now) ≡ outcome (acceptance result) (state_of self.new.interior log.now table.now) }
         ensures same { is_ok result ≡ false → self.new ≡ self.old }
-        ensures guaranteed { Guaranteed (I.QuorumSystem.meaning inputs.now) (O.QuorumSystem.meaning outputs.now) (to_open opening.objects opening.lease opening.drift clocks.now) (state_of self.old.interior log.now table.now) (acceptance result) (state_of self.new.interior log.now table.now) }
+        ensures guaranteed { Guaranteed (I.QuorumSystem.meaning systems.now.inputs) (O.QuorumSystem.meaning systems.now.outputs) (to_open opening.objects opening.lease opening.drift clocks.now) (state_of self.old.interior log.now table.now) (acceptance result) (state_of self.new.interior log.now table.now) }
     {
-        self.interior
-            .open(log, table, inputs, outputs, opening, clocks)
+        self.interior.open(log, table, systems, opening, clocks)
     }
 
     // Moves every clock by its increment, the input servers first.
@@ -43,16 +41,14 @@ impl Field {
         &mut self,
         log: &[Message],
         table: &[Operation],
-        inputs: &I,
-        outputs: &O,
+        systems: &Systems<I, O>,
         increments: &[u64],
     ) -> Result<(), Refusal>
-        ensures does { advancing (I.QuorumSystem.meaning inputs.now) (O.QuorumSystem.meaning outputs.now) increments.now (state_of self.old.interior log.now table.now) ≡ outcome (acceptance result) (state_of self.new.interior log.now table.now) }
+        ensures does { advancing (I.QuorumSystem.meaning systems.now.inputs) (O.QuorumSystem.meaning systems.now.outputs) increments.now (state_of self.old.interior log.now table.now) ≡ outcome (acceptance result) (state_of self.new.interior log.now table.now) }
         ensures same { is_ok result ≡ false → self.new ≡ self.old }
-        ensures guaranteed { Guaranteed (I.QuorumSystem.meaning inputs.now) (O.QuorumSystem.meaning outputs.now) (to_advance increments.now) (state_of self.old.interior log.now table.now) (acceptance result) (state_of self.new.interior log.now table.now) }
+        ensures guaranteed { Guaranteed (I.QuorumSystem.meaning systems.now.inputs) (O.QuorumSystem.meaning systems.now.outputs) (to_advance increments.now) (state_of self.old.interior log.now table.now) (acceptance result) (state_of self.new.interior log.now table.now) }
     {
-        self.interior
-            .advance(log, table, inputs, outputs, increments)
+        self.interior.advance(log, table, systems, increments)
     }
 
     // Begins a write of a value to an object, and gives the operation's number.
@@ -60,17 +56,16 @@ impl Field {
         &mut self,
         log: &mut [Message],
         table: &mut [Operation],
-        inputs: &I,
-        outputs: &O,
+        systems: &Systems<I, O>,
         object: u64,
         value: u64,
     ) -> Result<u16, Refusal>
-        ensures does { beginning_write (I.QuorumSystem.meaning inputs.now) (O.QuorumSystem.meaning outputs.now) object value (state_of self.old.interior log.old table.old) ≡ outcome (beginning_says result) (state_of self.new.interior log.new table.new) }
+        ensures does { beginning_write (I.QuorumSystem.meaning systems.now.inputs) (O.QuorumSystem.meaning systems.now.outputs) object value (state_of self.old.interior log.old table.old) ≡ outcome (beginning_says result) (state_of self.new.interior log.new table.new) }
         ensures same { is_ok result ≡ false → (self.new ≡ self.old) × (log.new ≡ log.old) × (table.new ≡ table.old) }
-        ensures guaranteed { Guaranteed (I.QuorumSystem.meaning inputs.now) (O.QuorumSystem.meaning outputs.now) (to_write object value) (state_of self.old.interior log.old table.old) (beginning_says result) (state_of self.new.interior log.new table.new) }
+        ensures guaranteed { Guaranteed (I.QuorumSystem.meaning systems.now.inputs) (O.QuorumSystem.meaning systems.now.outputs) (to_write object value) (state_of self.old.interior log.old table.old) (beginning_says result) (state_of self.new.interior log.new table.new) }
     {
         self.interior
-            .begin_write(log, table, inputs, outputs, object, value)
+            .begin_write(log, table, systems, object, value)
     }
 
     // Begins a read of an object, and gives the operation's number.
@@ -78,16 +73,14 @@ impl Field {
         &mut self,
         log: &mut [Message],
         table: &mut [Operation],
-        inputs: &I,
-        outputs: &O,
+        systems: &Systems<I, O>,
         object: u64,
     ) -> Result<u16, Refusal>
-        ensures does { beginning_read (I.QuorumSystem.meaning inputs.now) (O.QuorumSystem.meaning outputs.now) object (state_of self.old.interior log.old table.old) ≡ outcome (beginning_says result) (state_of self.new.interior log.new table.new) }
+        ensures does { beginning_read (I.QuorumSystem.meaning systems.now.inputs) (O.QuorumSystem.meaning systems.now.outputs) object (state_of self.old.interior log.old table.old) ≡ outcome (beginning_says result) (state_of self.new.interior log.new table.new) }
         ensures same { is_ok result ≡ false → (self.new ≡ self.old) × (log.new ≡ log.old) × (table.new ≡ table.old) }
-        ensures guaranteed { Guaranteed (I.QuorumSystem.meaning inputs.now) (O.QuorumSystem.meaning outputs.now) (to_read object) (state_of self.old.interior log.old table.old) (beginning_says result) (state_of self.new.interior log.new table.new) }
+        ensures guaranteed { Guaranteed (I.QuorumSystem.meaning systems.now.inputs) (O.QuorumSystem.meaning systems.now.outputs) (to_read object) (state_of self.old.interior log.old table.old) (beginning_says result) (state_of self.new.interior log.new table.new) }
     {
-        self.interior
-            .begin_read(log, table, inputs, outputs, object)
+        self.interior.begin_read(log, table, systems, object)
     }
 
     // Delivers the message with that number, and says whether an operation ended with it.
@@ -95,14 +88,13 @@ impl Field {
         &mut self,
         log: &mut [Message],
         table: &mut [Operation],
-        inputs: &I,
-        outputs: &O,
+        systems: &Systems<I, O>,
         number: usize,
     ) -> Result<Delivery, Refusal>
-        ensures does { delivering (I.QuorumSystem.meaning inputs.now) (O.QuorumSystem.meaning outputs.now) number (state_of self.old.interior log.old table.old) ≡ outcome (delivery_says result) (state_of self.new.interior log.new table.new) }
+        ensures does { delivering (I.QuorumSystem.meaning systems.now.inputs) (O.QuorumSystem.meaning systems.now.outputs) number (state_of self.old.interior log.old table.old) ≡ outcome (delivery_says result) (state_of self.new.interior log.new table.new) }
         ensures same { is_ok result ≡ false → (self.new ≡ self.old) × (log.new ≡ log.old) × (table.new ≡ table.old) }
-        ensures guaranteed { Guaranteed (I.QuorumSystem.meaning inputs.now) (O.QuorumSystem.meaning outputs.now) (to_deliver number) (state_of self.old.interior log.old table.old) (delivery_says result) (state_of self.new.interior log.new table.new) }
+        ensures guaranteed { Guaranteed (I.QuorumSystem.meaning systems.now.inputs) (O.QuorumSystem.meaning systems.now.outputs) (to_deliver number) (state_of self.old.interior log.old table.old) (delivery_says result) (state_of self.new.interior log.new table.new) }
     {
-        self.interior.deliver(log, table, inputs, outputs, number)
+        self.interior.deliver(log, table, systems, number)
     }
 }

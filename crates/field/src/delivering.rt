@@ -17,7 +17,7 @@ use crate::hearing::hear;
 use crate::interior::Interior;
 use checks::check_delivery;
 use operation::Operation;
-use quorum::{QuorumSystem, Refusal};
+use quorum::{QuorumSystem, Refusal, Systems};
 use rules::{Delivery, Message, has_room};
 
 impl Interior {
@@ -26,32 +26,31 @@ impl Interior {
         &mut self,
         log: &mut [Message],
         table: &mut [Operation],
-        inputs: &I,
-        outputs: &O,
+        systems: &Systems<I, O>,
         number: usize,
     ) -> Result<Delivery, Refusal>
         requires { Sound self.old }
-        ensures does { delivering (I.QuorumSystem.meaning inputs.now) (O.QuorumSystem.meaning outputs.now) number (state_of self.old log.old table.old) ≡ outcome (delivery_says result) (state_of self.new log.new table.new) }
+        ensures does { delivering (I.QuorumSystem.meaning systems.now.inputs) (O.QuorumSystem.meaning systems.now.outputs) number (state_of self.old log.old table.old) ≡ outcome (delivery_says result) (state_of self.new log.new table.new) }
         ensures same { is_ok result ≡ false → (self.new ≡ self.old) × (log.new ≡ log.old) × (table.new ≡ table.old) }
     {
-        self.check_message(log, table, inputs, outputs, number)?;
+        self.check_message(log, table, systems, number)?;
         if !self.is_in_range(&log[number - 1], table) {
             return Err(Refusal::OutOfRange);
         }
-        Ok(self.receive(log, table, inputs, outputs, number))
+        Ok(self.receive(log, table, systems, number))
     }
 
     fn check_message<I: QuorumSystem, O: QuorumSystem>(
         &self,
         log: &[Message],
         table: &[Operation],
-        inputs: &I,
-        outputs: &O,
+        systems: &Systems<I, O>,
         number: usize,
     ) -> Result<(), Refusal>
-        ensures { refusal_said result ≡ delivery_check (I.QuorumSystem.meaning inputs.now) (O.QuorumSystem.meaning outputs.now) number (state_of self.now log.now table.now) }
+        ensures { refusal_said result ≡ delivery_check (I.QuorumSystem.meaning systems.now.inputs) (O.QuorumSystem.meaning systems.now.outputs) number (state_of self.now log.now table.now) }
     {
-        let as_opened = self.is_as_opened(log.len(), table.len(), inputs.count(), outputs.count());
+        let (n, m) = (systems.inputs.count(), systems.outputs.count());
+        let as_opened = self.is_as_opened(log.len(), table.len(), n, m);
         let room = has_room(log, self.made);
         check_delivery(self.is_open, as_opened, number, self.made, room)
     }
@@ -61,12 +60,11 @@ impl Interior {
         &mut self,
         log: &mut [Message],
         table: &mut [Operation],
-        inputs: &I,
-        outputs: &O,
+        systems: &Systems<I, O>,
         number: usize,
     ) -> Delivery
-        requires { Deliverable (I.QuorumSystem.meaning inputs.now) (O.QuorumSystem.meaning outputs.now) self.old log.old table.old number }
-        ensures { receives (I.QuorumSystem.meaning inputs.now) (O.QuorumSystem.meaning outputs.now) (numbered log.old number) (state_of self.old log.old table.old) ≡ outcome (end_of result) (state_of self.new log.new table.new) }
+        requires { Deliverable (I.QuorumSystem.meaning systems.now.inputs) (O.QuorumSystem.meaning systems.now.outputs) self.old log.old table.old number }
+        ensures { receives (I.QuorumSystem.meaning systems.now.inputs) (O.QuorumSystem.meaning systems.now.outputs) (numbered log.old number) (state_of self.old log.old table.old) ≡ outcome (end_of result) (state_of self.new log.new table.new) }
     {
         match log[number - 1] {
             Message::ClockAnswer {
@@ -74,21 +72,21 @@ impl Interior {
                 operation,
                 clock,
             } => {
-                self.hear_clock(log, table, inputs, outputs, input, operation, clock);
+                self.hear_clock(log, table, systems, input, operation, clock);
                 Delivery::NothingEnded
             }
             Message::WriteAnswer { operation, .. } => {
-                hear(table, inputs, outputs, operation, &log[number - 1])
+                hear(table, systems, operation, &log[number - 1])
             }
             Message::ReadAnswer { operation, .. } => {
-                hear(table, inputs, outputs, operation, &log[number - 1])
+                hear(table, systems, operation, &log[number - 1])
             }
             Message::ReadRequest {
                 operation,
                 output,
                 object,
             } => {
-                self.take_read_request(log, inputs, operation, output, object);
+                self.take_read_request(log, &systems.inputs, operation, output, object);
                 Delivery::NothingEnded
             }
             _ => {
@@ -149,7 +147,7 @@ impl Interior {
                 input,
                 list,
             } => self.take_invalidation_answer(log, output, input, list),
-            _ => unreachable(),
+            _ => unreachable!(),
         }
     }
 }

@@ -12,8 +12,8 @@ ghost use Rattle.field.specs.Ranging.{place_of};
 ghost use Rattle.field.specs.Views.{state_of};
 
 use crate::interior::Interior;
-use operation::{AskingStep, AskingWrite, Operation, Read, ReadStep, SendingStep, SendingWrite};
-use quorum::QuorumSystem;
+use operation::{AskingStep, AskingWrite, Operation, Read, SendingWrite, Step};
+use quorum::{QuorumSystem, Systems};
 use rules::{Delivery, Message};
 
 impl Interior {
@@ -22,16 +22,15 @@ impl Interior {
         &mut self,
         log: &mut [Message],
         table: &mut [Operation],
-        inputs: &I,
-        outputs: &O,
+        systems: &Systems<I, O>,
         input: u8,
         operation: u16,
         clock: u16,
     )
         requires room { self.old.made + 9 ≤ length log.old }
         requires begun { (1 ≤ operation) × (operation ≤ length table.old) }
-        requires accepts { Accepts (I.QuorumSystem.meaning inputs.now) (O.QuorumSystem.meaning outputs.now) (Message.ClockAnswer input operation clock) (place_of table.old operation) }
-        ensures { receives (I.QuorumSystem.meaning inputs.now) (O.QuorumSystem.meaning outputs.now) (Message.ClockAnswer input operation clock) (state_of self.old log.old table.old) ≡ quiet (state_of self.new log.new table.new) }
+        requires accepts { Accepts (I.QuorumSystem.meaning systems.now.inputs) (O.QuorumSystem.meaning systems.now.outputs) (Message.ClockAnswer input operation clock) (place_of table.old operation) }
+        ensures { receives (I.QuorumSystem.meaning systems.now.inputs) (O.QuorumSystem.meaning systems.now.outputs) (Message.ClockAnswer input operation clock) (state_of self.old log.old table.old) ≡ quiet (state_of self.new log.new table.new) }
     {
         let place = operation as usize - 1;
         let message = Message::ClockAnswer {
@@ -40,7 +39,7 @@ impl Interior {
             clock,
         };
         let before = std::mem::replace(&mut table[place], Operation::Unused);
-        let after = self.ask_place(before, &message, log, inputs, outputs);
+        let after = self.ask_place(before, &message, log, systems);
         table[place] = after;
     }
 
@@ -50,16 +49,15 @@ impl Interior {
         before: Operation,
         message: &Message,
         log: &mut [Message],
-        inputs: &I,
-        outputs: &O,
+        systems: &Systems<I, O>,
     ) -> Operation
         requires room { self.old.made + 9 ≤ length log.old }
-        requires accepts { Accepts (I.QuorumSystem.meaning inputs.now) (O.QuorumSystem.meaning outputs.now) message.now (operation_of before) }
-        ensures place { operation_of result ≡ clock_place (I.QuorumSystem.meaning inputs.now) message.now (operation_of before) }
-        ensures sends { (t : List Place) → state_of self.new log.new t ≡ post (clock_sends self.old.input_count.count (I.QuorumSystem.meaning inputs.now) message.now (operation_of before)) (state_of self.old log.old t) }
+        requires accepts { Accepts (I.QuorumSystem.meaning systems.now.inputs) (O.QuorumSystem.meaning systems.now.outputs) message.now (operation_of before) }
+        ensures place { operation_of result ≡ clock_place (I.QuorumSystem.meaning systems.now.inputs) message.now (operation_of before) }
+        ensures sends { (t : List Place) → state_of self.new log.new t ≡ post (clock_sends self.old.input_count.number (I.QuorumSystem.meaning systems.now.inputs) message.now (operation_of before)) (state_of self.old log.old t) }
     {
         match before {
-            Operation::Asking(write) => self.ask_on(write, message, log, inputs, outputs),
+            Operation::Asking(write) => self.ask_on(write, message, log, systems),
             Operation::Unused => Operation::Unused,
             Operation::Sending(write) => Operation::Sending(write),
             Operation::Reading(read) => Operation::Reading(read),
@@ -73,21 +71,20 @@ impl Interior {
         write: AskingWrite,
         message: &Message,
         log: &mut [Message],
-        inputs: &I,
-        outputs: &O,
+        systems: &Systems<I, O>,
     ) -> Operation
         requires room { self.old.made + 9 ≤ length log.old }
-        requires accepts { Accepts (I.QuorumSystem.meaning inputs.now) (O.QuorumSystem.meaning outputs.now) message.now (asking (asking_of write)) }
-        ensures place { operation_of result ≡ asking_place (asks_after (I.QuorumSystem.meaning inputs.now) message.now (asking_of write)) }
-        ensures sends { (t : List Place) → state_of self.new log.new t ≡ post (asking_sends self.old.input_count.count (asks_after (I.QuorumSystem.meaning inputs.now) message.now (asking_of write))) (state_of self.old log.old t) }
+        requires accepts { Accepts (I.QuorumSystem.meaning systems.now.inputs) (O.QuorumSystem.meaning systems.now.outputs) message.now (asking (asking_of write)) }
+        ensures place { operation_of result ≡ asking_place (asks_after (I.QuorumSystem.meaning systems.now.inputs) message.now (asking_of write)) }
+        ensures sends { (t : List Place) → state_of self.new log.new t ≡ post (asking_sends self.old.input_count.number (asks_after (I.QuorumSystem.meaning systems.now.inputs) message.now (asking_of write))) (state_of self.old log.old t) }
     {
-        match write.answer(message, inputs, outputs) {
+        match write.answer(message, systems) {
             Ok(AskingStep::Asking(write)) => Operation::Asking(write),
             Ok(AskingStep::Sending(write)) => {
                 self.log_all(log, &write, self.input_count);
                 Operation::Sending(write)
             }
-            Err(_) => unreachable(),
+            Err(_) => unreachable!(),
         }
     }
 }
@@ -95,19 +92,18 @@ impl Interior {
 // A write answer or a read answer to an operation.
 pub(crate) fn hear<I: QuorumSystem, O: QuorumSystem>(
     table: &mut [Operation],
-    inputs: &I,
-    outputs: &O,
+    systems: &Systems<I, O>,
     operation: u16,
     message: &Message,
 ) -> Delivery
     requires begun { (1 ≤ operation) × (operation ≤ length table.old) }
-    requires accepts { Accepts (I.QuorumSystem.meaning inputs.now) (O.QuorumSystem.meaning outputs.now) message.now (place_of table.old operation) }
-    ensures table { map operation_of table.new ≡ slice_set (map operation_of table.old) (operation - 1) (heard_at (I.QuorumSystem.meaning inputs.now) (O.QuorumSystem.meaning outputs.now) message.now (place_of table.old operation)).place }
-    ensures says { end_of result ≡ (heard_at (I.QuorumSystem.meaning inputs.now) (O.QuorumSystem.meaning outputs.now) message.now (place_of table.old operation)).said }
+    requires accepts { Accepts (I.QuorumSystem.meaning systems.now.inputs) (O.QuorumSystem.meaning systems.now.outputs) message.now (place_of table.old operation) }
+    ensures table { map operation_of table.new ≡ slice_set (map operation_of table.old) (operation - 1) (heard_at (I.QuorumSystem.meaning systems.now.inputs) (O.QuorumSystem.meaning systems.now.outputs) message.now (place_of table.old operation)).place }
+    ensures says { end_of result ≡ (heard_at (I.QuorumSystem.meaning systems.now.inputs) (O.QuorumSystem.meaning systems.now.outputs) message.now (place_of table.old operation)).said }
 {
     let place = operation as usize - 1;
     let before = std::mem::replace(&mut table[place], Operation::Unused);
-    let (after, delivery) = hear_on(before, message, inputs, outputs);
+    let (after, delivery) = hear_on(before, message, systems);
     table[place] = after;
     delivery
 }
@@ -116,29 +112,22 @@ pub(crate) fn hear<I: QuorumSystem, O: QuorumSystem>(
 fn send_on<I: QuorumSystem, O: QuorumSystem>(
     write: SendingWrite,
     message: &Message,
-    inputs: &I,
-    outputs: &O,
+    systems: &Systems<I, O>,
 ) -> (Operation, Delivery)
-    requires { Accepts (I.QuorumSystem.meaning inputs.now) (O.QuorumSystem.meaning outputs.now) message.now (sending (sending_of write)) }
-    ensures { record { place = operation_of result.0; said = end_of result.1 } ≡ sending_heard (sends_after (I.QuorumSystem.meaning inputs.now) (O.QuorumSystem.meaning outputs.now) message.now (sending_of write)) }
+    requires { Accepts (I.QuorumSystem.meaning systems.now.inputs) (O.QuorumSystem.meaning systems.now.outputs) message.now (sending (sending_of write)) }
+    ensures { record { place = operation_of result.0; said = end_of result.1 } ≡ sending_heard (sends_after (I.QuorumSystem.meaning systems.now.inputs) (O.QuorumSystem.meaning systems.now.outputs) message.now (sending_of write)) }
 {
-    match write.answer(message, inputs, outputs) {
-        Ok(SendingStep::Sending(write)) => (Operation::Sending(write), Delivery::NothingEnded),
-        Ok(
-            SendingStep::Ended {
-                operation,
-                version,
-                value,
-            },
-        ) => (
+    match write.answer(message, systems) {
+        Ok(Step::On(write)) => (Operation::Sending(write), Delivery::NothingEnded),
+        Ok(Step::Ended(end)) => (
             Operation::Ended,
             Delivery::WriteEnded {
-                operation,
-                version,
-                value,
+                operation: end.operation,
+                version: end.version,
+                value: end.value,
             },
         ),
-        Err(_) => unreachable(),
+        Err(_) => unreachable!(),
     }
 }
 
@@ -146,29 +135,22 @@ fn send_on<I: QuorumSystem, O: QuorumSystem>(
 fn read_on<I: QuorumSystem, O: QuorumSystem>(
     read: Read,
     message: &Message,
-    inputs: &I,
-    outputs: &O,
+    systems: &Systems<I, O>,
 ) -> (Operation, Delivery)
-    requires { Accepts (I.QuorumSystem.meaning inputs.now) (O.QuorumSystem.meaning outputs.now) message.now (reading (reading_of read)) }
-    ensures { record { place = operation_of result.0; said = end_of result.1 } ≡ reading_heard (reads_after (O.QuorumSystem.meaning outputs.now) message.now (reading_of read)) }
+    requires { Accepts (I.QuorumSystem.meaning systems.now.inputs) (O.QuorumSystem.meaning systems.now.outputs) message.now (reading (reading_of read)) }
+    ensures { record { place = operation_of result.0; said = end_of result.1 } ≡ reading_heard (reads_after (O.QuorumSystem.meaning systems.now.outputs) message.now (reading_of read)) }
 {
-    match read.answer(message, inputs, outputs) {
-        Ok(ReadStep::Reading(read)) => (Operation::Reading(read), Delivery::NothingEnded),
-        Ok(
-            ReadStep::Ended {
-                operation,
-                version,
-                value,
-            },
-        ) => (
+    match read.answer(message, systems) {
+        Ok(Step::On(read)) => (Operation::Reading(read), Delivery::NothingEnded),
+        Ok(Step::Ended(end)) => (
             Operation::Ended,
             Delivery::ReadEnded {
-                operation,
-                version,
-                value,
+                operation: end.operation,
+                version: end.version,
+                value: end.value,
             },
         ),
-        Err(_) => unreachable(),
+        Err(_) => unreachable!(),
     }
 }
 
@@ -176,15 +158,14 @@ fn read_on<I: QuorumSystem, O: QuorumSystem>(
 fn hear_on<I: QuorumSystem, O: QuorumSystem>(
     before: Operation,
     message: &Message,
-    inputs: &I,
-    outputs: &O,
+    systems: &Systems<I, O>,
 ) -> (Operation, Delivery)
-    requires { Accepts (I.QuorumSystem.meaning inputs.now) (O.QuorumSystem.meaning outputs.now) message.now (operation_of before) }
-    ensures { record { place = operation_of result.0; said = end_of result.1 } ≡ heard_at (I.QuorumSystem.meaning inputs.now) (O.QuorumSystem.meaning outputs.now) message.now (operation_of before) }
+    requires { Accepts (I.QuorumSystem.meaning systems.now.inputs) (O.QuorumSystem.meaning systems.now.outputs) message.now (operation_of before) }
+    ensures { record { place = operation_of result.0; said = end_of result.1 } ≡ heard_at (I.QuorumSystem.meaning systems.now.inputs) (O.QuorumSystem.meaning systems.now.outputs) message.now (operation_of before) }
 {
     match before {
-        Operation::Sending(write) => send_on(write, message, inputs, outputs),
-        Operation::Reading(read) => read_on(read, message, inputs, outputs),
+        Operation::Sending(write) => send_on(write, message, systems),
+        Operation::Reading(read) => read_on(read, message, systems),
         Operation::Asking(write) => (Operation::Asking(write), Delivery::NothingEnded),
         Operation::Unused => (Operation::Unused, Delivery::NothingEnded),
         Operation::Ended => (Operation::Ended, Delivery::NothingEnded),

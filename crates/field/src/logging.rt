@@ -80,7 +80,7 @@ impl Interior {
         count: ServerCount,
     )
         requires { self.old.made + 9 ≤ length log.old }
-        ensures { (t : List Place) → state_of self.new log.new t ≡ post (each count.count (λ i. R.message requests.now i ∷ [])) (state_of self.old log.old t) }
+        ensures { (t : List Place) → state_of self.new log.new t ≡ post (each count.number (λ i. R.message requests.now i ∷ [])) (state_of self.old log.old t) }
     {
         for number in 0..count.get() {
             self.log_one(log, requests.request(number));

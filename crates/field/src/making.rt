@@ -57,28 +57,19 @@ pub fn blank_operation() -> Operation
 }
 
 fn no_servers() -> ServerCount
-    ensures { result.count ≡ 0 }
+    ensures { result.number ≡ 0 }
 {
-    match ServerCount::new(0) {
-        Some(count) => count,
-        None => unreachable(),
-    }
+    ServerCount::try_from(0).unwrap()
 }
 
 fn no_lease() -> LeaseLength
     ensures { result.micros ≡ 0 }
 {
-    match LeaseLength::new(0) {
-        Some(length) => length,
-        None => unreachable(),
-    }
+    LeaseLength::try_from(0).unwrap()
 }
 
 fn no_drift() -> Drift
     ensures { result.thousandths ≡ 0 }
 {
-    match Drift::new(0) {
-        Some(drift) => drift,
-        None => unreachable(),
-    }
+    Drift::try_from(0).unwrap()
 }

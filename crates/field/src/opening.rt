@@ -12,7 +12,7 @@ use crate::interior::Interior;
 use checks::{Opening, check_opening};
 use numbers::{Drift, LeaseLength, ServerCount, Time};
 use operation::Operation;
-use quorum::{QuorumSystem, Refusal};
+use quorum::{QuorumSystem, Refusal, Systems};
 use rules::Message;
 use servers::{InputServers, OutputServers};
 
@@ -23,16 +23,14 @@ impl Interior {
         &mut self,
         log: &[Message],
         table: &[Operation],
-        inputs: &I,
-        outputs: &O,
+        systems: &Systems<I, O>,
         opening: Opening,
         clocks: &[Time],
     ) -> Result<(), Refusal>
-        ensures does { opening_of (I.QuorumSystem.meaning inputs.now) (O.QuorumSystem.meaning outputs.now) opening.objects opening.lease opening.drift clocks.now (state_of self.old log.now table.now) ≡ outcome (acceptance result) (state_of self.new log.now table.now) }
+        ensures does { opening_of (I.QuorumSystem.meaning systems.now.inputs) (O.QuorumSystem.meaning systems.now.outputs) opening.objects opening.lease opening.drift clocks.now (state_of self.old log.now table.now) ≡ outcome (acceptance result) (state_of self.new log.now table.now) }
         ensures same { is_ok result ≡ false → self.new ≡ self.old }
     {
-        let n = inputs.count();
-        let m = outputs.count();
+        let (n, m) = (systems.inputs.count(), systems.outputs.count());
         check_opening(self.is_open, n, m, opening, clocks, log.len(), table.len())?;
         self.start(n, m, opening, clocks, log.len(), table.len());
         Ok(())
@@ -71,30 +69,21 @@ impl Interior {
 
 fn server_count(count: u8) -> ServerCount
     requires { count ≤ 8 }
-    ensures { result.count ≡ count }
+    ensures { result.number ≡ count }
 {
-    match ServerCount::new(count) {
-        Some(count) => count,
-        None => unreachable(),
-    }
+    ServerCount::try_from(count).unwrap()
 }
 
 fn lease_length(micros: u64) -> LeaseLength
     requires { micros ≤ 1000000000 }
     ensures { result.micros ≡ micros }
 {
-    match LeaseLength::new(micros as u32) {
-        Some(length) => length,
-        None => unreachable(),
-    }
+    LeaseLength::try_from(micros as u32).unwrap()
 }
 
 fn drift_of(thousandths: u64) -> Drift
     requires { thousandths ≤ 999 }
     ensures { result.thousandths ≡ thousandths }
 {
-    match Drift::new(thousandths as u16) {
-        Some(drift) => drift,
-        None => unreachable(),
-    }
+    Drift::try_from(thousandths as u16).unwrap()
 }

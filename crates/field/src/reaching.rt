@@ -9,7 +9,7 @@ ghost use Rattle.field.specs.Views.{state_of};
 
 use crate::interior::Interior;
 use numbers::{InputNumber, LeaseLength, Moment, ObjectNumber, OutputNumber, Time};
-use rules::Message;
+use rules::{Log, Message};
 use servers::{InputEvent, OutputEvent};
 
 impl Interior {
@@ -19,13 +19,11 @@ impl Interior {
         requires taken { Taken (E.happens event input (slice_index_or (inputs_of self.old.inputs) input no_input) self.old.made log.old) }
         ensures { (t : List Place) → state_of self.new log.new t ≡ after_input input (E.happens event input (slice_index_or (inputs_of self.old.inputs) input no_input) self.old.made log.old) (state_of self.old log.old t) }
     {
-        match self
-            .inputs
-            .change(input_number(input), event, log, self.made)
-        {
-            Ok(made) => self.made = made,
-            Err(_) => unreachable(),
-        }
+        let mut log = Log::new(log, self.made);
+        self.inputs
+            .change(input_number(input), event, &mut log)
+            .unwrap();
+        self.made = log.made();
     }
 
     // The event happens to the output server with that number.
@@ -34,13 +32,11 @@ impl Interior {
         requires taken { Taken (E.happens event output (slice_index_or (outputs_of self.old.outputs) output no_output) self.old.made log.old) }
         ensures { (t : List Place) → state_of self.new log.new t ≡ after_output output (E.happens event output (slice_index_or (outputs_of self.old.outputs) output no_output) self.old.made log.old) (state_of self.old log.old t) }
     {
-        match self
-            .outputs
-            .change(output_number(output), event, log, self.made)
-        {
-            Ok(made) => self.made = made,
-            Err(_) => unreachable(),
-        }
+        let mut log = Log::new(log, self.made);
+        self.outputs
+            .change(output_number(output), event, &mut log)
+            .unwrap();
+        self.made = log.made();
     }
 }
 
@@ -48,48 +44,33 @@ pub(crate) fn input_number(number: u8) -> InputNumber
     requires { number < 8 }
     ensures { result.number ≡ number }
 {
-    match InputNumber::new(number) {
-        Some(number) => number,
-        None => unreachable(),
-    }
+    InputNumber::try_from(number).unwrap()
 }
 
 pub(crate) fn output_number(number: u8) -> OutputNumber
     requires { number < 8 }
     ensures { result.number ≡ number }
 {
-    match OutputNumber::new(number) {
-        Some(number) => number,
-        None => unreachable(),
-    }
+    OutputNumber::try_from(number).unwrap()
 }
 
 pub(crate) fn object_number(number: u8) -> ObjectNumber
     requires { number < 16 }
     ensures { result.number ≡ number }
 {
-    match ObjectNumber::new(number) {
-        Some(number) => number,
-        None => unreachable(),
-    }
+    ObjectNumber::try_from(number).unwrap()
 }
 
 pub(crate) fn moment_of(time: Time) -> Moment
     requires { time.0 ≤ last_time }
     ensures { result.micros ≡ time.0 }
 {
-    match Moment::new(time) {
-        Some(moment) => moment,
-        None => unreachable(),
-    }
+    Moment::try_from(time).unwrap()
 }
 
 pub(crate) fn length_of(micros: u32) -> LeaseLength
     requires { micros ≤ longest }
     ensures { result.micros ≡ micros }
 {
-    match LeaseLength::new(micros) {
-        Some(length) => length,
-        None => unreachable(),
-    }
+    LeaseLength::try_from(micros).unwrap()
 }

@@ -100,7 +100,7 @@ impl Interior {
         object: u8,
     )
         requires ready { Ready self.old log.old }
-        requires counted { (I.meaning inputs.now).count ≡ self.old.input_count.count }
+        requires counted { (I.meaning inputs.now).count ≡ self.old.input_count.number }
         requires fits { numbers_fit (frame_of self.old).counts (Message.ReadRequest operation output object) ≡ true }
         ensures { (o : System) (t : List Place) → receives (I.meaning inputs.now) o (Message.ReadRequest operation output object) (state_of self.old log.old t) ≡ quiet (state_of self.new log.new t) }
     {

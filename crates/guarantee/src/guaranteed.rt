@@ -4,22 +4,16 @@ ghost use Rattle.guarantee.specs.Guarantee.{EveryStory};
 ghost use Rattle.guarantee.specs.Leases.{LeasesRunOut};
 
 // The read guarantee, whole.
-pub fn every_story_stands() -> u8
+pub fn every_story_stands()
     ensures { EveryStory }
-{
-    0
-}
+{}
 
 // No lease outlives the input server's own count of it.
-pub fn leases_run_out() -> u8
+pub fn leases_run_out()
     ensures { LeasesRunOut }
-{
-    0
-}
+{}
 
 // An operation ends with the delivery that completes its quorums: no earlier, no later, and once.
-pub fn operations_end_when_complete() -> u8
+pub fn operations_end_when_complete()
     ensures { OperationsEndWhenComplete }
-{
-    0
-}
+{}

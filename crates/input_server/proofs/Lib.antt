@@ -1,3 +1,2 @@
 pub mod Waits
-pub mod Acknowledged
 pub mod StepsTaken

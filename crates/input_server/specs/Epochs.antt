@@ -1,5 +1,6 @@
 -- Epochs that can still be followed by another one.
-use Rattle.std.specs.Prelude.{ℕ, zero, suc, ◌+◌, Bool, true, ◌&&◌, List, nat_le, slice_index_or, slice_set}
+use Rattle.std.specs.Prelude.{ℕ, ◌+◌, Bool, List, nat_le, slice_index_or, slice_set}
+use Rattle.quorum.specs.Sets.{all_below}
 use Rattle.rules.specs.declared.kept.Ledger.{Ledger}
 use Rattle.rules.specs.Input.{Input, no_ledger, ledger}
 
@@ -12,8 +13,7 @@ has_epoch ls j = nat_le (slice_index_or ls j no_ledger).epoch.0 last_epoch
 
 -- each output server below m can
 abbrev pub have_epochs : List Ledger → ℕ → Bool
-have_epochs ls zero = true
-have_epochs ls (suc m) = have_epochs ls m && has_epoch ls m
+have_epochs ls m = all_below m (has_epoch ls)
 
 -- the server with the next epoch of output server j
 abbrev pub next_epoch : ℕ → Input → Input

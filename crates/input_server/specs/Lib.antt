@@ -1,6 +1,5 @@
 pub mod Views
 pub mod Epochs
-pub mod Pairwise
 pub mod Renewing
 pub mod Steps
 pub mod Telling

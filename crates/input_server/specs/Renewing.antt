@@ -1,5 +1,5 @@
 -- What a renewal request leaves, part by part.
-use Rattle.std.specs.Prelude.{ℕ, ◌+◌, Bool, cond, [], take, slice_set}
+use Rattle.std.specs.Prelude.{ℕ, ◌+◌, cond, [], take, slice_set}
 use Rattle.numbers.specs.declared.time.Time.{Time}
 use Rattle.numbers.specs.Numbers.{none, shown}
 use Rattle.rules.specs.declared.kept.Newest.{Newest}
@@ -10,15 +10,13 @@ use Rattle.rules.specs.Lists.{pairs}
 use Rattle.rules.specs.Input.{Input, held, ledger, chain}
 use Rattle.rules.specs.Renewals.{asks_object, asks_volume}
 
--- the server with a lease for output server j, where one is granted
-abbrev pub with_grant : Bool → ℕ → ℕ → Input → Input
-with_grant granted lease j I = record {
+-- the server with a lease for output server j
+abbrev pub with_lease : ℕ → ℕ → Input → Input
+with_lease lease j I = record {
   clock = I.clock;
   lc = I.lc;
   objects = I.objects;
-  ledgers = cond granted
-      (slice_set I.ledgers j (record { acked = (ledger I j).acked; epoch = (ledger I j).epoch; until = record { 0 = I.clock.0 + lease } }))
-      I.ledgers;
+  ledgers = slice_set I.ledgers j (record { acked = (ledger I j).acked; epoch = (ledger I j).epoch; until = record { 0 = I.clock.0 + lease } });
   waiting = I.waiting;
 }
 

@@ -1,32 +1,22 @@
 // What an output server acknowledged.
 ghost use Rattle.std.specs.Prelude.{◌≡◌, [], slice_index_or, slice_set};
 ghost use Rattle.numbers.specs.Numbers.{none, raised};
-ghost use Rattle.rules.specs.Lists.{list_of};
 ghost use Rattle.rules.specs.Input.{acknowledges, acknowledges_all};
-ghost use Rattle.input_server.specs.Pairwise.{acknowledges_at};
 ghost use Rattle.input_server.specs.Views.{input_of};
 
 use crate::server::InputServer;
 use numbers::{OutputNumber, Version};
-use rules::{Pair, Pairs};
+use rules::Pair;
 
 impl InputServer {
     // An invalidation answer: each pair of its list, in order.
-    pub fn take_acknowledgement(&mut self, output: OutputNumber, list: Pairs)
-        ensures does { input_of self.new ≡ acknowledges_all output.number (list_of list) (input_of self.old) }
-        ensures same { list_of list ≡ [] → self.new ≡ self.old }
+    #[tactic(auto, unfolding(rules::specs::Input::acknowledges_all))]
+    pub fn take_acknowledgement(&mut self, output: OutputNumber, list: &[Pair])
+        ensures does { input_of self.new ≡ acknowledges_all output.number list.now (input_of self.old) }
+        ensures same { list.now ≡ [] → self.new ≡ self.old }
     {
-        for place in 0..list.len() {
-            self.acknowledge_at(output, list, place);
-        }
-    }
-
-    // The pair at one place of a list.
-    fn acknowledge_at(&mut self, output: OutputNumber, list: Pairs, place: u8)
-        ensures { input_of self.new ≡ acknowledges_at output.number place list (input_of self.old) }
-    {
-        if let Some(pair) = list.get(place) {
-            self.acknowledge(output, pair);
+        for pair in list {
+            self.acknowledge(output, *pair);
         }
     }
 
@@ -34,7 +24,7 @@ impl InputServer {
     fn acknowledge(&mut self, output: OutputNumber, pair: Pair)
         ensures { input_of self.new ≡ acknowledges output.number pair (input_of self.old) }
     {
-        let acked = raise_acked(&mut self.ledgers[output.get() as usize].acked, pair);
+        let acked = raise_acked(&mut self.ledgers[output.index()].acked, pair);
         self.chains.acknowledge(output, pair.object, acked);
     }
 }
@@ -45,10 +35,10 @@ fn raise_acked(acked: &mut [Version], pair: Pair) -> Version
     ensures says { result ≡ raised (slice_index_or acked.old pair.object none) pair.version }
     ensures after { acked.new ≡ slice_set acked.old pair.object (raised (slice_index_or acked.old pair.object none) pair.version) }
 {
-    let place = pair.object as usize;
+    let place = usize::from(pair.object);
     if place >= acked.len() {
-        return Version::NONE.raised(pair.version);
+        return pair.version;
     }
-    acked[place] = acked[place].raised(pair.version);
+    acked[place] = acked[place].max(pair.version);
     acked[place]
 }

@@ -4,8 +4,10 @@
 mod acknowledging;
 mod queueing;
 mod renewing;
+mod requests;
 mod server;
 mod steps;
 mod telling;
 
+pub use requests::{RenewalRequest, WriteRequest};
 pub use server::InputServer;

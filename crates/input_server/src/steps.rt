@@ -1,6 +1,7 @@
 // What an input server does with each kind of message that it is sent.
 // Each step promises two things: `does`, that it is the step of the rules, and `same`, that where it
-// refuses the server and the log themselves are as they were, and not only what they mean.
+// refuses the server and the log themselves are as they were, and not only what they mean. Where it
+// logs, `loan` says that the log is still the same loan.
 ghost use Rattle.std.specs.Prelude.{◌≡◌, false, is_ok};
 ghost use Rattle.rules.specs.Answers.{acceptance};
 ghost use Rattle.rules.specs.Input.{first_input};
@@ -8,14 +9,12 @@ ghost use Rattle.rules.specs.Steps.{step};
 ghost use Rattle.input_server.specs.Steps.{ticking, clock_step, write_step, renewal_step};
 ghost use Rattle.input_server.specs.Views.{input_of};
 
-use crate::renewing::length_of;
+use crate::requests::{RenewalRequest, WriteRequest};
 use crate::server::InputServer;
 use chain::Chains;
-use numbers::{
-    Epoch, InputNumber, LeaseLength, Moment, ObjectNumber, OutputNumber, ServerCount, Time, Version,
-};
+use numbers::{Epoch, InputNumber, LeaseLength, Moment, Time, Version};
 use quorum::Refusal;
-use rules::{Held, Ledger, Message, Parts, has_room};
+use rules::{Held, Ledger, Log, Message};
 
 impl InputServer {
     // A server that took no write and was asked nothing yet.
@@ -44,7 +43,7 @@ impl InputServer {
     pub fn clock(&self) -> Time
         ensures { result ≡ (input_of self.now).clock }
     {
-        self.clock.time()
+        self.clock.into()
     }
 
     // Time passes. A clock that would pass the last time stays.
@@ -52,91 +51,82 @@ impl InputServer {
         ensures does { ticking increment (input_of self.old) ≡ (acceptance result, input_of self.new) }
         ensures same { is_ok result ≡ false → self.new ≡ self.old }
     {
-        match self.clock.later(increment) {
-            Some(clock) => self.clock = clock,
-            None => return Err(Refusal::PastLastTime),
-        }
+        self.clock = self.clock.later(increment).ok_or(Refusal::PastLastTime)?;
         Ok(())
     }
 
-    // A clock question: the highest clock of any version taken. Says how many messages are made
-    // then.
+    // A clock question: the highest clock of any version taken.
     pub fn answer_clock(
         &self,
         me: InputNumber,
         operation: u16,
-        log: &mut [Message],
-        made: usize,
-    ) -> Result<usize, Refusal>
-        ensures does { clock_step me.number operation (input_of self.now) made log.old ≡ step result (input_of self.now) log.new }
+        log: &mut Log,
+    ) -> Result<(), Refusal>
+        ensures does { clock_step me.number operation (input_of self.now) log.old.made log.old.messages.now ≡ step result (input_of self.now) log.new }
         ensures same { is_ok result ≡ false → log.new ≡ log.old }
+        ensures loan { log.new.messages.ghost_name ≡ log.old.messages.ghost_name }
     {
-        if !has_room(log, made) {
+        if !log.has_room() {
             return Err(Refusal::NoRoomToDeliver);
         }
-        log[made] = Message::ClockAnswer {
+        log.push(Message::ClockAnswer {
             input: me.get(),
             operation,
             clock: self.lc,
-        };
-        Ok(made + 1)
+        });
+        Ok(())
     }
 
     // A write request: takes the version, tells the output servers, and answers who is shut out.
     pub fn take_write(
         &mut self,
         me: InputNumber,
-        outputs: ServerCount,
-        operation: u16,
-        object: ObjectNumber,
-        version: Version,
-        value: u64,
-        log: &mut [Message],
-        made: usize,
-    ) -> Result<usize, Refusal>
-        ensures does { write_step me.number operation outputs.count object.number version value (input_of self.old) made log.old ≡ step result (input_of self.new) log.new }
+        request: &WriteRequest,
+        log: &mut Log,
+    ) -> Result<(), Refusal>
+        ensures does { write_step me.number request.now.operation request.now.outputs.number request.now.object.number request.now.version request.now.value (input_of self.old) log.old.made log.old.messages.now ≡ step result (input_of self.new) log.new }
         ensures same { is_ok result ≡ false → (self.new ≡ self.old) × (log.new ≡ log.old) }
+        ensures loan { log.new.messages.ghost_name ≡ log.old.messages.ghost_name }
     {
-        if !has_room(log, made) {
+        if !log.has_room() {
             return Err(Refusal::NoRoomToDeliver);
         }
-        if !self.has_epochs(outputs) {
+        if !self.has_epochs(request.outputs) {
             return Err(Refusal::OutOfRange);
         }
-        self.take_version(object, version, value);
-        self.queue_all(outputs, object);
-        let next = self.tell_all(me, outputs, object, log, made);
-        log[next] = Message::WriteAnswer {
+        self.take_version(request);
+        self.queue_all(request.outputs, request.object);
+        self.tell_all(me, request.outputs, request.object, log);
+        log.push(Message::WriteAnswer {
             input: me.get(),
-            operation,
-            shut_out: self.shut_out(outputs, object),
-        };
-        Ok(next + 1)
+            operation: request.operation,
+            shut_out: self.shut_out(request.outputs, request.object),
+        });
+        Ok(())
     }
 
     // A renewal request: gives the object, grants a lease, or both, as it was asked.
     pub fn answer_renewal(
         &mut self,
         me: InputNumber,
-        output: OutputNumber,
-        parts: Parts,
-        object: ObjectNumber,
-        stamp: Time,
-        lease: LeaseLength,
-        log: &mut [Message],
-        made: usize,
-    ) -> Result<usize, Refusal>
-        ensures does { renewal_step me.number lease.micros output.number parts object.number stamp (input_of self.old) made log.old ≡ step result (input_of self.new) log.new }
+        request: &RenewalRequest,
+        log: &mut Log,
+    ) -> Result<(), Refusal>
+        ensures does { renewal_step me.number request.now.lease.micros request.now.output.number request.now.parts request.now.object.number request.now.stamp (input_of self.old) log.old.made log.old.messages.now ≡ step result (input_of self.new) log.new }
         ensures same { is_ok result ≡ false → (self.new ≡ self.old) × (log.new ≡ log.old) }
+        ensures loan { log.new.messages.ghost_name ≡ log.old.messages.ghost_name }
     {
-        if !has_room(log, made) {
+        if !log.has_room() {
             return Err(Refusal::NoRoomToDeliver);
         }
-        let granted = self.is_granted(output, parts);
-        let length = length_of(granted, lease);
-        log[made] = self.renewal(me, output, parts, object, stamp, length);
-        self.grant(granted, output, lease);
-        self.give(object, parts);
-        Ok(made + 1)
+        // a lease that is not granted has the length 0
+        let granted = self.granted(request);
+        let length = granted.map_or(0, |lease| lease.micros());
+        log.push(self.renewal(me, request, length));
+        if let Some(lease) = granted {
+            self.grant(request.output, lease);
+        }
+        self.give(request.object, request.parts);
+        Ok(())
     }
 }

@@ -1,15 +1,15 @@
 // Who is shut out, and who is told of a write.
-ghost use Rattle.std.specs.Prelude.{◌≡◌, ◌+◌, ◌^◌, ◌<◌, ◌≤◌, [], ◌∷◌, length, if◌then◌else◌, bit_or};
-ghost use Rattle.std.proofs.lemmas.List.Edits.{sets};
+ghost use Rattle.std.specs.Prelude.{◌≡◌, ◌+◌, ◌<◌, ◌≤◌, length};
 ghost use Rattle.quorum.specs.Sets.{set_of};
 ghost use Rattle.rules.specs.Input.{is_shut_out, invalidations};
+ghost use Rattle.rules.specs.Steps.{Logs};
 ghost use Rattle.input_server.specs.Telling.{invalidation};
 ghost use Rattle.input_server.specs.Views.{input_of};
 
 use crate::server::InputServer;
-use numbers::{InputNumber, ObjectNumber, ServerCount};
+use numbers::{InputNumber, ObjectNumber, ServerCount, Time, Version};
 use quorum::MemberSet;
-use rules::Message;
+use rules::{Log, Message};
 
 impl InputServer {
     // An output server is shut out for an object if it was never given the object, went beyond all
@@ -18,81 +18,51 @@ impl InputServer {
         requires { output < 8 }
         ensures { result ≡ is_shut_out (input_of self.now) object.number output }
     {
-        let place = object.get() as usize;
-        let held = self.objects[place];
-        let acked = self.ledgers[output as usize].acked[place];
-        held.given.0 == 0
-            || held.given.0 < acked.0
-            || held.version.0 <= acked.0
-            || self.ledgers[output as usize].until.0 <= self.clock.time().0
+        let held = self.objects[object.index()];
+        let acked = self.ledgers[output as usize].acked[object.index()];
+        held.given == Version::NONE
+            || held.given < acked
+            || held.version <= acked
+            || self.ledgers[output as usize].until <= Time::from(self.clock)
     }
 
     // All that are shut out.
     pub(crate) fn shut_out(&self, outputs: ServerCount, object: ObjectNumber) -> MemberSet
-        ensures { result.0 ≡ set_of outputs.count (is_shut_out (input_of self.now) object.number) }
+        ensures { result.0 ≡ set_of outputs.number (is_shut_out (input_of self.now) object.number) }
     {
-        let mut set = MemberSet::EMPTY;
-        for number in 0..outputs.get() {
-            set = self.with_shut_out(set, number, object);
-        }
-        set
+        (0..outputs.get())
+            .filter(|output| self.is_shut_out(*output, object))
+            .fold(MemberSet::EMPTY, |set, output| set.with(output))
     }
 
-    fn with_shut_out(&self, set: MemberSet, output: u8, object: ObjectNumber) -> MemberSet
-        requires { output < 8 }
-        ensures { result.0 ≡ (if is_shut_out (input_of self.now) object.number output then bit_or set.0 (2 ^ output) else set.0) }
-    {
-        if self.is_shut_out(output, object) {
-            set.with(output)
-        } else {
-            set
-        }
-    }
-
-    // An invalidation to every output server that is not shut out, rising. Says how many messages
-    // are made then.
+    // An invalidation to every output server that is not shut out, rising.
     pub(crate) fn tell_all(
         &self,
         me: InputNumber,
         outputs: ServerCount,
         object: ObjectNumber,
-        log: &mut [Message],
-        made: usize,
-    ) -> usize
-        requires { made + 9 ≤ length log.old }
-        ensures says { result ≡ made + length (invalidations me.number outputs.count object.number (input_of self.now)) }
-        ensures after { log.new ≡ sets log.old made (invalidations me.number outputs.count object.number (input_of self.now)) }
-        ensures few { result ≤ made + 8 }
+        log: &mut Log,
+    )
+        requires { log.old.made + 9 ≤ length log.old.messages.now }
+        ensures { Logs log.old log.new (invalidations me.number outputs.number object.number (input_of self.now)) }
     {
-        let mut next = made;
         for output in 0..outputs.get() {
-            next = self.tell(me, output, object, log, next);
+            self.tell(me, output, object, log);
         }
-        next
     }
 
     // One to an output server that is not shut out.
-    fn tell(
-        &self,
-        me: InputNumber,
-        output: u8,
-        object: ObjectNumber,
-        log: &mut [Message],
-        made: usize,
-    ) -> usize
-        requires { (output < 8) × (made < length log.old) }
-        ensures says { result ≡ made + length (invalidation me.number object.number (input_of self.now) output) }
-        ensures after { log.new ≡ sets log.old made (invalidation me.number object.number (input_of self.now) output) }
+    fn tell(&self, me: InputNumber, output: u8, object: ObjectNumber, log: &mut Log)
+        requires { (output < 8) × (log.old.made < length log.old.messages.now) }
+        ensures { Logs log.old log.new (invalidation me.number object.number (input_of self.now) output) }
     {
-        if self.is_shut_out(output, object) {
-            return made;
+        if !self.is_shut_out(output, object) {
+            log.push(Message::Invalidation {
+                input: me.get(),
+                output,
+                object: object.get(),
+                version: self.objects[object.index()].version,
+            });
         }
-        log[made] = Message::Invalidation {
-            input: me.get(),
-            output,
-            object: object.get(),
-            version: self.objects[object.get() as usize].version,
-        };
-        made + 1
     }
 }

@@ -1,10 +1,10 @@
 // An input server with a log lent to it, and plain numbers in place of checked ones.
-use input_server::InputServer;
+use input_server::{InputServer, RenewalRequest, WriteRequest};
 use numbers::{
     Epoch, InputNumber, LeaseLength, Moment, ObjectNumber, OutputNumber, ServerCount, Time, Version,
 };
 use quorum::{MemberSet, Refusal};
-use rules::{Message, Pair, Pairs, Parts};
+use rules::{Log, Message, Pair, Pairs, Parts};
 use std::process::Abort;
 use std::test::*;
 
@@ -30,13 +30,13 @@ pub(crate) struct Stage {
 impl Stage {
     // At the clock 0, with so many output servers.
     pub(crate) fn new(outputs: u8) -> Result<Stage, Fail> {
-        let clock = Moment::new(Time::ZERO).ok_or(Refusal::OutOfRange)?;
+        let clock = Moment::try_from(Time::ZERO)?;
         Ok(Stage {
             server: InputServer::new(clock),
             log: [UNUSED; 12],
-            me: InputNumber::new(2).ok_or(Refusal::OutOfRange)?,
-            outputs: ServerCount::new(outputs).ok_or(Refusal::OutOfRange)?,
-            lease: LeaseLength::new(LEASE).ok_or(Refusal::OutOfRange)?,
+            me: InputNumber::try_from(2)?,
+            outputs: ServerCount::try_from(outputs)?,
+            lease: LeaseLength::try_from(LEASE)?,
         })
     }
 
@@ -49,12 +49,12 @@ impl Stage {
         Ok(())
     }
 
-    // The number of the refusal, or 0 where there is none.
-    pub(crate) fn tick_refused(&mut self, increment: u64) -> u8 {
-        match self.server.tick(increment) {
-            Ok(()) => 0,
-            Err(refusal) => refusal.number(),
-        }
+    // The number by which it is refused, if it is.
+    pub(crate) fn tick_refused(&mut self, increment: u64) -> Option<u8> {
+        self.server
+            .tick(increment)
+            .err()
+            .map(|refusal| refusal.number())
     }
 
     // A renewal request of an output server, stamped with 70. One message is logged.
@@ -65,61 +65,53 @@ impl Stage {
         parts: Parts,
         object: u8,
     ) -> Result<(), Fail> {
-        let output = OutputNumber::new(output).ok_or(Refusal::OutOfRange)?;
-        let object = ObjectNumber::new(object).ok_or(Refusal::OutOfRange)?;
-        let made = self.server.answer_renewal(
-            self.me,
-            output,
+        let request = RenewalRequest {
+            output: OutputNumber::try_from(output)?,
             parts,
-            object,
-            Time(70),
-            self.lease,
-            &mut self.log,
-            0,
-        )?;
-        assert_eq!(rt; made, 1);
+            object: ObjectNumber::try_from(object)?,
+            stamp: Time(70),
+            lease: self.lease,
+        };
+        let mut log = Log::new(&mut self.log, 0);
+        self.server.answer_renewal(self.me, &request, &mut log)?;
+        assert_eq!(rt; log.made(), 1);
         Ok(())
     }
 
     // A write request. Says how many messages are logged.
     pub(crate) fn write(&mut self, object: u8, version: Version) -> Result<usize, Fail> {
-        let object = ObjectNumber::new(object).ok_or(Refusal::OutOfRange)?;
-        let made = self.server.take_write(
-            self.me,
-            self.outputs,
-            9,
-            object,
-            version,
-            5,
-            &mut self.log,
-            0,
-        )?;
-        Ok(made)
+        let request = self.request(object, version)?;
+        let mut log = Log::new(&mut self.log, 0);
+        self.server.take_write(self.me, &request, &mut log)?;
+        Ok(log.made())
     }
 
-    // The same where 4 messages of 12 are made, and 8 free: the number of the refusal, or 0 where
-    // there is none.
-    pub(crate) fn write_refused(&mut self, object: u8, version: Version) -> Result<u8, Fail> {
-        let object = ObjectNumber::new(object).ok_or(Refusal::OutOfRange)?;
-        let said = self.server.take_write(
-            self.me,
-            self.outputs,
-            9,
-            object,
+    // The same where 4 messages of 12 are made, and 8 free: the number by which it is refused, if it
+    // is.
+    pub(crate) fn write_refused(
+        &mut self,
+        object: u8,
+        version: Version,
+    ) -> Result<Option<u8>, Fail> {
+        let request = self.request(object, version)?;
+        let mut log = Log::new(&mut self.log, 4);
+        let said = self.server.take_write(self.me, &request, &mut log);
+        Ok(said.err().map(|refusal| refusal.number()))
+    }
+
+    fn request(&self, object: u8, version: Version) -> Result<WriteRequest, Fail> {
+        Ok(WriteRequest {
+            outputs: self.outputs,
+            operation: 9,
+            object: ObjectNumber::try_from(object)?,
             version,
-            5,
-            &mut self.log,
-            4,
-        );
-        match said {
-            Ok(_) => Ok(0),
-            Err(refusal) => Ok(refusal.number()),
-        }
+            value: 5,
+        })
     }
 
     pub(crate) fn acknowledge(&mut self, output: u8, list: Pairs) -> Result<(), Fail> {
-        let output = OutputNumber::new(output).ok_or(Refusal::OutOfRange)?;
-        self.server.take_acknowledgement(output, list);
+        let output = OutputNumber::try_from(output)?;
+        self.server.take_acknowledgement(output, list.as_slice());
         Ok(())
     }
 
@@ -136,7 +128,9 @@ impl Stage {
 
     // That a clock question is answered by that clock.
     pub(crate) fn expect_clock(&mut self, rt: &impl Abort, clock: u16) -> Result<(), Fail> {
-        assert_eq!(rt; self.server.answer_clock(self.me, 9, &mut self.log, 0)?, 1);
+        let mut log = Log::new(&mut self.log, 0);
+        self.server.answer_clock(self.me, 9, &mut log)?;
+        assert_eq!(rt; log.made(), 1);
         self.expect(
             rt,
             0,

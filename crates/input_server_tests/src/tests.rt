@@ -197,7 +197,7 @@ fn parts_of_a_renewal(rt: HostRuntime) -> Result<(), Fail> {
 fn refusals_alter_nothing(rt: HostRuntime) -> Result<(), Fail> {
     let mut stage = given_two(&rt)?;
     stage.expect_clock(&rt, 1)?;
-    assert_eq!(rt; stage.write_refused(3, Version::new(2, 1))?, 32);
+    assert_eq!(rt; stage.write_refused(3, Version::new(2, 1))?, Some(32));
     stage.expect(
         &rt,
         4,
@@ -209,7 +209,7 @@ fn refusals_alter_nothing(rt: HostRuntime) -> Result<(), Fail> {
     stage.expect_clock(&rt, 1)?;
     stage.expect_waiting(&rt, 0, 1, LEASE, Pairs::empty())?;
     stage.tick(7)?;
-    assert_eq!(rt; stage.tick_refused((1 << 40) - 6), 12);
+    assert_eq!(rt; stage.tick_refused((1 << 40) - 6), Some(12));
     assert_eq!(rt; stage.clock(), 7);
     Ok(())
 }

@@ -1,33 +1,14 @@
 // The two servers with their log, and what can happen to them. Every message stays in the log under
 // its number, and is delivered when the story says so, or never.
 use crate::words::{Brought, Versions, Words, brought_in};
-use input_server::InputServer;
+use anyhow::{Result, bail};
+use input_server::{InputServer, RenewalRequest, WriteRequest};
 use numbers::{
     Drift, InputNumber, LeaseLength, Moment, ObjectNumber, OutputNumber, ServerCount, Time, Version,
 };
 use output_server::{OutputServer, Renewal};
-use quorum::{Majority, Refusal};
-use rules::{Message, Pairs, Parts};
-use std::io;
-
-// Why a story stops before its end.
-#[derive(Debug, Drop)]
-pub(crate) enum Stop {
-    Refused(Refusal),
-    Output(io::Error),
-}
-
-impl From<Refusal> for Stop {
-    fn from(refusal: Refusal) -> Stop {
-        Stop::Refused(refusal)
-    }
-}
-
-impl From<io::Error> for Stop {
-    fn from(error: io::Error) -> Stop {
-        Stop::Output(error)
-    }
-}
+use quorum::Majority;
+use rules::{Log, Message, Pairs, Parts};
 
 const UNUSED: Message = Message::ClockQuestion {
     operation: 0,
@@ -51,39 +32,39 @@ pub(crate) struct Stage {
 }
 
 impl Stage {
-    pub(crate) fn new() -> Result<Stage, Stop> {
-        let clock = Moment::new(Time::ZERO).ok_or(Refusal::OutOfRange)?;
+    pub(crate) fn new() -> Result<Stage> {
+        let clock = Moment::try_from(Time::ZERO)?;
         Ok(Stage {
             input: InputServer::new(clock),
             output: OutputServer::new(clock),
             inputs: Majority::new(1)?,
-            outputs: ServerCount::new(1).ok_or(Refusal::OutOfRange)?,
-            input_number: InputNumber::new(0).ok_or(Refusal::OutOfRange)?,
-            output_number: OutputNumber::new(0).ok_or(Refusal::OutOfRange)?,
-            object: ObjectNumber::new(0).ok_or(Refusal::OutOfRange)?,
-            lease: LeaseLength::new(1_000).ok_or(Refusal::OutOfRange)?,
-            drift: Drift::new(10).ok_or(Refusal::OutOfRange)?,
+            outputs: ServerCount::try_from(1)?,
+            input_number: InputNumber::try_from(0)?,
+            output_number: OutputNumber::try_from(0)?,
+            object: ObjectNumber::try_from(0)?,
+            lease: LeaseLength::try_from(1_000)?,
+            drift: Drift::try_from(10)?,
             log: [UNUSED; 32],
             made: 0,
         })
     }
 
     // Time passes, for both servers alike.
-    pub(crate) fn advance(&mut self, increment: u64) -> Result<(), Stop> {
+    pub(crate) fn advance(&mut self, increment: u64) -> Result<()> {
         self.input.tick(increment)?;
         self.output.tick(increment)?;
         Ok(())
     }
 
     // Begins a line with the clock.
-    fn begin(&self, rt: &impl Print) -> Result<(), Stop> {
+    fn begin(&self, rt: &impl Print) -> Result<()> {
         let clock = self.input.clock().0;
         print!(rt; "{clock:>5}  ")?;
         Ok(())
     }
 
     // Ends a line with the messages made since so many.
-    fn end(&self, rt: &impl Print, before: usize) -> Result<(), Stop> {
+    fn end(&self, rt: &impl Print, before: usize) -> Result<()> {
         for (place, message) in self.log.iter().enumerate() {
             if before <= place && place < self.made {
                 let words = Words(message);
@@ -96,18 +77,14 @@ impl Stage {
     }
 
     // A read request reaches the output server.
-    pub(crate) fn read(&mut self, rt: &impl Print) -> Result<(), Stop> {
+    pub(crate) fn read(&mut self, rt: &impl Print) -> Result<()> {
         self.begin(rt)?;
         print!(rt; "output server is read")?;
         let before = self.made;
-        self.made = self.output.answer_read(
-            self.output_number,
-            &self.inputs,
-            3,
-            self.object,
-            &mut self.log,
-            before,
-        )?;
+        let mut log = Log::new(&mut self.log, before);
+        self.output
+            .answer_read(self.output_number, &self.inputs, 3, self.object, &mut log)?;
+        self.made = log.made();
         self.end(rt, before)
     }
 
@@ -118,28 +95,29 @@ impl Stage {
         operation: u16,
         version: Version,
         value: u64,
-    ) -> Result<(), Stop> {
+    ) -> Result<()> {
         self.begin(rt)?;
         let number = version.0;
         print!(rt; "input server is asked to write version {number} with value {value}")?;
         let before = self.made;
-        self.made = self.input.take_write(
-            self.input_number,
-            self.outputs,
+        let request = WriteRequest {
+            outputs: self.outputs,
             operation,
-            self.object,
+            object: self.object,
             version,
             value,
-            &mut self.log,
-            before,
-        )?;
+        };
+        let mut log = Log::new(&mut self.log, before);
+        self.input
+            .take_write(self.input_number, &request, &mut log)?;
+        self.made = log.made();
         self.end(rt, before)
     }
 
     // A message reaches the server that it is for.
-    pub(crate) fn deliver(&mut self, rt: &impl Print, number: usize) -> Result<(), Stop> {
+    pub(crate) fn deliver(&mut self, rt: &impl Print, number: usize) -> Result<()> {
         if number < 1 || number > self.log.len() {
-            return Err(Stop::Refused(Refusal::NoSuchMessage));
+            bail!("there is no message {number}");
         }
         self.begin(rt)?;
         let shown = number as u64;
@@ -154,27 +132,28 @@ impl Stage {
             Message::Invalidation { version, .. } => self.told(rt, version)?,
             Message::InvalidationAnswer { list, .. } => self.acknowledged(rt, list)?,
             // no other kind is for one of the two
-            _ => return Err(Stop::Refused(Refusal::NoSuchMessage)),
+            _ => bail!("message {number} is for neither server"),
         }
         self.end(rt, before)
     }
 
     // A renewal request reaches the input server.
-    fn asked(&mut self, rt: &impl Print, parts: Parts, stamp: Time) -> Result<(), Stop> {
+    fn asked(&mut self, rt: &impl Print, parts: Parts, stamp: Time) -> Result<()> {
         let before = self.made;
-        self.made = self.input.answer_renewal(
-            self.input_number,
-            self.output_number,
+        let request = RenewalRequest {
+            output: self.output_number,
             parts,
-            self.object,
+            object: self.object,
             stamp,
-            self.lease,
-            &mut self.log,
-            before,
-        )?;
+            lease: self.lease,
+        };
+        let mut log = Log::new(&mut self.log, before);
+        self.input
+            .answer_renewal(self.input_number, &request, &mut log)?;
+        self.made = log.made();
         print!(rt; "reaches the input server")?;
         if self.granted(before) > 0 {
-            let now = Moment::new(self.input.clock()).ok_or(Refusal::OutOfRange)?;
+            let now = Moment::try_from(self.input.clock())?;
             let until = now.plus(self.lease).0;
             print!(rt; ", which counts on a lease until {until}")?;
         }
@@ -190,39 +169,41 @@ impl Stage {
     }
 
     // An invalidation reaches the output server.
-    fn told(&mut self, rt: &impl Print, version: Version) -> Result<(), Stop> {
+    fn told(&mut self, rt: &impl Print, version: Version) -> Result<()> {
         print!(rt; "reaches the output server")?;
-        self.made = self.output.take_invalidation(
+        let mut log = Log::new(&mut self.log, self.made);
+        self.output.take_invalidation(
             self.output_number,
             self.input_number,
             self.object,
             version,
-            &mut self.log,
-            self.made,
+            &mut log,
         )?;
+        self.made = log.made();
         Ok(())
     }
 
     // An acknowledgement reaches the input server.
-    fn acknowledged(&mut self, rt: &impl Print, list: Pairs) -> Result<(), Stop> {
+    fn acknowledged(&mut self, rt: &impl Print, list: Pairs) -> Result<()> {
         let versions = Versions(list);
         print!(rt;
             "reaches the input server, which notes that the output server knows {versions}"
         )?;
-        self.input.take_acknowledgement(self.output_number, list);
+        self.input
+            .take_acknowledgement(self.output_number, list.as_slice());
         Ok(())
     }
 
     // A renewal answer reaches the output server.
-    fn renewed(&mut self, rt: &impl Print, brought: Brought) -> Result<(), Stop> {
+    fn renewed(&mut self, rt: &impl Print, brought: Brought) -> Result<()> {
         let renewal = Renewal {
             parts: brought.parts,
             object: self.object,
             version: brought.version,
             value: brought.value,
             epoch: brought.epoch,
-            stamp: Moment::new(brought.stamp).ok_or(Refusal::OutOfRange)?,
-            length: LeaseLength::new(brought.length).ok_or(Refusal::OutOfRange)?,
+            stamp: Moment::try_from(brought.stamp)?,
+            length: LeaseLength::try_from(brought.length)?,
             list: brought.list,
         };
         print!(rt; "reaches the output server")?;
@@ -230,14 +211,15 @@ impl Stage {
             let until = renewal.stamp.lease_end(renewal.length, self.drift).0;
             print!(rt; ", which counts on a lease until {until}")?;
         }
-        self.made = self.output.take_renewal(
+        let mut log = Log::new(&mut self.log, self.made);
+        self.output.take_renewal(
             self.output_number,
             self.input_number,
             &renewal,
             self.drift,
-            &mut self.log,
-            self.made,
+            &mut log,
         )?;
+        self.made = log.made();
         Ok(())
     }
 }

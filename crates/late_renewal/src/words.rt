@@ -30,13 +30,10 @@ fn shut_out_in_words(set: MemberSet) -> &'static str {
 
 impl fmt::Display for Versions {
     fn fmt<W: fmt::Write>(&self, f: &mut fmt::Formatter<W>) -> fmt::Result {
-        let list = self.0;
         f.write_str("version")?;
-        for place in 0..list.len() {
-            if let Some(pair) = list.get(place) {
-                let version = pair.version.0;
-                write!(f, " {version}")?;
-            }
+        for pair in self.0.as_slice() {
+            let version = pair.version.0;
+            write!(f, " {version}")?;
         }
         Ok(())
     }

@@ -3,15 +3,11 @@
 // take it from its radio.
 #![tactic(auto)]
 
-mod site;
-mod stop;
 mod walk;
 
 use operation::AskingWrite;
-use quorum::MemberSet;
+use quorum::{Majority, MemberSet, ReadOneWriteAll, Systems};
 use rules::Message;
-use site::Site;
-use stop::Stop;
 use walk::{ask, send};
 
 fn clock(input: u8, operation: u16, clock: u16) -> Message {
@@ -30,13 +26,16 @@ fn named(input: u8, operation: u16, set: u64) -> Message {
     }
 }
 
-fn main(rt: HostRuntime) -> Result<(), Stop> {
-    let site = Site::new(3, 2)?;
+fn main(rt: HostRuntime) -> anyhow::Result<()> {
+    let systems = Systems {
+        inputs: Majority::new(3)?,
+        outputs: ReadOneWriteAll::new(2)?,
+    };
     println!(rt; "Asking: operation 7 writes 500 to object 3.")?;
     let asking = AskingWrite::new(7, 3, 500);
     // the second is to another operation
     let clocks = [clock(0, 7, 4), clock(1, 8, 60_000), clock(2, 7, 9)];
-    let sending = ask(&rt, asking, &clocks, &site)?;
+    let sending = ask(&rt, asking, &clocks, &systems)?;
 
     let version = sending.version().0;
     let value = sending.value();
@@ -44,7 +43,7 @@ fn main(rt: HostRuntime) -> Result<(), Stop> {
     println!(rt; "Sending: version {version} of object {object}, value {value}.")?;
     // output server 1 is named by a write set of the input servers only with the third
     let sets = [named(0, 7, 0b01), named(1, 7, 0b11), named(2, 7, 0b10)];
-    let end = send(&rt, sending, &sets, &site)?;
+    let end = send(&rt, sending, &sets, &systems)?;
 
     let version = end.version.0;
     let operation = end.operation;

@@ -1,77 +1,67 @@
 // A write goes from state to state by its answers. Each state is a type of its own: an answer uses
 // the state up and gives the next one, and a refusal gives it back as it was.
-use crate::site::Site;
-use crate::stop::Stop;
-use numbers::Version;
-use operation::{AskingStep, AskingWrite, SendingStep, SendingWrite};
+use anyhow::{Result, bail};
+use operation::{AskingStep, AskingWrite, End, SendingWrite, Step};
+use quorum::{QuorumSystem, Refusal, Systems};
 use rules::Message;
-
-// What an ended write leaves.
-#[derive(Clone, Copy)]
-pub(crate) struct End {
-    pub operation: u16,
-    pub version: Version,
-    pub value: u64,
-}
+use std::ops::ControlFlow;
 
 // The write asks on until it has its version.
-pub(crate) fn ask(
+pub(crate) fn ask<I: QuorumSystem, O: QuorumSystem>(
     rt: &impl Print,
     begun: AskingWrite,
     answers: &[Message],
-    site: &Site,
-) -> Result<SendingWrite, Stop> {
-    let mut write = begun;
-    for answer in answers {
-        match write.answer(answer, &site.inputs, &site.outputs) {
-            Ok(AskingStep::Asking(asking)) => {
-                println!(rt; "  an answer, and it asks on")?;
-                write = asking;
-            }
-            Ok(AskingStep::Sending(sending)) => return Ok(sending),
-            Err((refusal, asking)) => {
-                let number = refusal.number();
-                println!(rt; "  an answer is refused, {number}, and it asks on")?;
-                write = asking;
-            }
-        }
-    }
-    Err(Stop::Unanswered)
+    systems: &Systems<I, O>,
+) -> Result<SendingWrite> {
+    walk(rt, begun, answers, "asks", |write, answer| {
+        Ok(match write.answer(answer, systems)? {
+            AskingStep::Asking(write) => ControlFlow::Continue(write),
+            AskingStep::Sending(write) => ControlFlow::Break(write),
+        })
+    })
 }
 
 // The write sends on until it has ended.
-pub(crate) fn send(
+pub(crate) fn send<I: QuorumSystem, O: QuorumSystem>(
     rt: &impl Print,
-    sent: SendingWrite,
+    begun: SendingWrite,
     answers: &[Message],
-    site: &Site,
-) -> Result<End, Stop> {
-    let mut write = sent;
+    systems: &Systems<I, O>,
+) -> Result<End> {
+    walk(rt, begun, answers, "sends", |write, answer| {
+        Ok(match write.answer(answer, systems)? {
+            Step::On(write) => ControlFlow::Continue(write),
+            Step::Ended(end) => ControlFlow::Break(end),
+        })
+    })
+}
+
+// A state goes on by its answers until one of them makes something else of it.
+fn walk<S: Drop, T, F>(
+    rt: &impl Print,
+    begun: S,
+    answers: &[Message],
+    doing: &str,
+    hand: F,
+) -> Result<T>
+where
+    F: Fn(S, &Message) -> std::result::Result<ControlFlow<T, S>, (Refusal, S)>,
+    requires { F.IsAlwaysCallable hand }
+{
+    let mut state = begun;
     for answer in answers {
-        match write.answer(answer, &site.inputs, &site.outputs) {
-            Ok(SendingStep::Sending(sending)) => {
-                println!(rt; "  an answer, and it sends on")?;
-                write = sending;
+        state = match hand(state, answer) {
+            Ok(ControlFlow::Break(next)) => return Ok(next),
+            Ok(ControlFlow::Continue(state)) => {
+                println!(rt; "  an answer, and it {doing} on")?;
+                state
             }
-            Ok(
-                SendingStep::Ended {
-                    operation,
-                    version,
-                    value,
-                },
-            ) => {
-                return Ok(End {
-                    operation,
-                    version,
-                    value,
-                });
-            }
-            Err((refusal, sending)) => {
+            Err((refusal, state)) => {
                 let number = refusal.number();
-                println!(rt; "  an answer is refused, {number}, and it sends on")?;
-                write = sending;
+                println!(rt; "  an answer is refused, {number}, and it {doing} on")?;
+                state
             }
-        }
+        };
     }
-    Err(Stop::Unanswered)
+    bail!("the answers ran out before the write could go on")
 }

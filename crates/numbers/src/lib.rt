@@ -3,15 +3,21 @@
 #![tactic(auto)]
 
 mod epoch;
+mod kinds;
 mod moment;
 mod numbering;
+mod out_of_range;
 #[cfg(test)]
 mod tests;
 mod time;
 mod version;
 
 pub use epoch::Epoch;
+pub use kinds::{
+    Input, InputNumber, Object, ObjectNumber, Output, OutputNumber, ServerCount, Servers,
+};
 pub use moment::{Drift, LeaseLength, Moment};
-pub use numbering::{InputNumber, ObjectNumber, OutputNumber, ServerCount};
+pub use numbering::{Kind, Number};
+pub use out_of_range::OutOfRange;
 pub use time::Time;
 pub use version::Version;

@@ -1,50 +1,60 @@
 ghost use Rattle.std.specs.Prelude.{◌≡◌, ◌+◌, ◌^◌, ◌≤◌, nat_le};
 ghost use Rattle.numbers.specs.Numbers.{lease_end, keeps_pair};
-ghost use Rattle.numbers.specs.Checked.{Checked};
+ghost use Rattle.numbers.specs.Checked.{Checked, Added};
 
+use crate::out_of_range::OutOfRange;
 use crate::time::Time;
 
 // A time that a clock can show: 0 to 2^40.
-#[derive(Clone, Copy)]
+#[derive(Clone, Copy, Debug, PartialEq, Eq)]
 pub struct Moment {
     micros: u64,
     ghost shown: { micros ≤ 2 ^ 40 },
 }
 
 // How long a lease lasts, in microseconds: 0 to 1,000,000,000.
-#[derive(Clone, Copy)]
+#[derive(Clone, Copy, Debug, PartialEq, Eq)]
 pub struct LeaseLength {
     micros: u32,
     ghost short: { micros ≤ 1000000000 },
 }
 
 // The most by which two clocks may disagree about how much time has passed, in thousandths.
-#[derive(Clone, Copy)]
+#[derive(Clone, Copy, Debug, PartialEq, Eq)]
 pub struct Drift {
     thousandths: u16,
     ghost small: { thousandths ≤ 999 },
 }
 
-impl Moment {
-    pub fn new(time: Time) -> Option<Moment>
-        ensures { Checked (λ m. m.micros) (nat_le time.0 (2 ^ 40)) time.0 result }
-    {
-        if time.0 <= Time::LAST.0 {
-            Some(Moment { micros: time.0 })
+impl TryFrom<Time> for Moment {
+    type Error = OutOfRange;
+
+    ghost try_from_gives = { λ t r. Checked (λ m. m.micros) (nat_le t.0 (2 ^ 40)) t.0 r };
+
+    fn try_from(time: Time) -> Result<Moment, OutOfRange> {
+        if time <= Time::LAST {
+            Ok(Moment { micros: time.0 })
         } else {
-            None
+            Err(OutOfRange)
         }
     }
+}
 
-    pub fn time(self) -> Time
-        ensures { result.0 ≡ self.micros }
-    {
-        Time(self.micros)
+impl From<Moment> for Time {
+    ghost from_gives = { λ m t. t.0 ≡ m.micros };
+
+    fn from(moment: Moment) -> Time {
+        Time(moment.micros)
     }
+}
+
+impl Moment {
+    // When clocks begin that are set to nothing else.
+    pub const ZERO: Moment = Moment { micros: 0 };
 
     // So much later, unless the clock cannot show it.
     pub fn later(self, increment: u64) -> Option<Moment>
-        ensures { Checked (λ m. m.micros) (nat_le (self.micros + increment) (2 ^ 40)) (self.micros + increment) result }
+        ensures { Added (λ m. m.micros) (nat_le (self.micros + increment) (2 ^ 40)) (self.micros + increment) result }
     {
         if increment > Time::LAST.0 - self.micros {
             return None;
@@ -71,17 +81,21 @@ impl Moment {
     }
 }
 
-impl LeaseLength {
-    pub fn new(micros: u32) -> Option<LeaseLength>
-        ensures { Checked (λ l. l.micros) (nat_le micros 1000000000) micros result }
-    {
+impl TryFrom<u32> for LeaseLength {
+    type Error = OutOfRange;
+
+    ghost try_from_gives = { λ x r. Checked (λ l. l.micros) (nat_le x 1000000000) x r };
+
+    fn try_from(micros: u32) -> Result<LeaseLength, OutOfRange> {
         if micros <= 1_000_000_000 {
-            Some(LeaseLength { micros })
+            Ok(LeaseLength { micros })
         } else {
-            None
+            Err(OutOfRange)
         }
     }
+}
 
+impl LeaseLength {
     pub fn micros(self) -> u32
         ensures { result ≡ self.micros }
     {
@@ -89,17 +103,21 @@ impl LeaseLength {
     }
 }
 
-impl Drift {
-    pub fn new(thousandths: u16) -> Option<Drift>
-        ensures { Checked (λ d. d.thousandths) (nat_le thousandths 999) thousandths result }
-    {
+impl TryFrom<u16> for Drift {
+    type Error = OutOfRange;
+
+    ghost try_from_gives = { λ x r. Checked (λ d. d.thousandths) (nat_le x 999) x r };
+
+    fn try_from(thousandths: u16) -> Result<Drift, OutOfRange> {
         if thousandths <= 999 {
-            Some(Drift { thousandths })
+            Ok(Drift { thousandths })
         } else {
-            None
+            Err(OutOfRange)
         }
     }
+}
 
+impl Drift {
     pub fn thousandths(self) -> u16
         ensures { result ≡ self.thousandths }
     {

@@ -1,110 +1,66 @@
-ghost use Rattle.std.specs.Prelude.{◌≡◌, ◌<◌, ◌≤◌, nat_le, nat_lt};
+ghost use Rattle.std.specs.Prelude.{◌≡◌, ℕ, ◌<◌, nat_lt, Ok};
 ghost use Rattle.numbers.specs.Checked.{Checked};
 
-// The number of an input server: 0 to 7.
-#[derive(Clone, Copy)]
-pub struct InputNumber {
+use crate::out_of_range::OutOfRange;
+use std::alloc::AllocError;
+use std::marker::PhantomData;
+
+// What is numbered. Its numbers are those below the limit.
+pub trait Kind {
+    ghost LIMIT: { ℕ };
+
+    const LIMIT: u8;
+}
+
+// A number that was checked once. Numbers of two kinds are of two types, and are never mixed.
+#[derive_where(Debug, PartialEq, Eq, PartialOrd, Ord)]
+pub struct Number<K: Kind> {
     number: u8,
-    ghost inside: { number < 8 },
+    kind: PhantomData<K>,
+    ghost inside: { number < K.LIMIT },
 }
 
-// The number of an output server: 0 to 7.
-#[derive(Clone, Copy)]
-pub struct OutputNumber {
-    number: u8,
-    ghost inside: { number < 8 },
-}
-
-// The number of an object: 0 to 15.
-#[derive(Clone, Copy)]
-pub struct ObjectNumber {
-    number: u8,
-    ghost inside: { number < 16 },
-}
-
-// How many servers there are on one side: up to 8.
-#[derive(Clone, Copy)]
-pub struct ServerCount {
-    count: u8,
-    ghost inside: { count ≤ 8 },
-}
-
-impl InputNumber {
-    pub fn new(number: u8) -> Option<InputNumber>
-        ensures { Checked (λ i. i.number) (nat_lt number 8) number result }
+// By hand: a derive would ask that the kind, which is no value, can be copied.
+impl<K: Kind> Clone for Number<K> {
+    fn clone(&self) -> Result<Number<K>, AllocError>
+        ensures { result ≡ Ok self.now }
     {
-        if number < 8 {
-            Some(InputNumber { number })
+        Ok(*self)
+    }
+}
+
+impl<K: Kind> Copy for Number<K> {}
+
+impl<K: Kind> TryFrom<u8> for Number<K> {
+    type Error = OutOfRange;
+
+    ghost try_from_gives = { λ x r. Checked (λ n. n.number) (nat_lt x K.LIMIT) x r };
+
+    fn try_from(number: u8) -> Result<Number<K>, OutOfRange> {
+        if number < K::LIMIT {
+            Ok(Number {
+                number,
+                kind: PhantomData,
+            })
         } else {
-            None
+            Err(OutOfRange)
         }
     }
+}
 
+impl<K: Kind> Number<K> {
     pub fn get(self) -> u8
         ensures is { result ≡ self.number }
-        ensures inside { result < 8 }
+        ensures inside { result < K.LIMIT }
     {
-        let InputNumber { number } = self;
-        number
-    }
-}
-
-impl OutputNumber {
-    pub fn new(number: u8) -> Option<OutputNumber>
-        ensures { Checked (λ j. j.number) (nat_lt number 8) number result }
-    {
-        if number < 8 {
-            Some(OutputNumber { number })
-        } else {
-            None
-        }
+        self.number
     }
 
-    pub fn get(self) -> u8
+    // The number as a place of a table.
+    pub fn index(self) -> usize
         ensures is { result ≡ self.number }
-        ensures inside { result < 8 }
+        ensures inside { result < K.LIMIT }
     {
-        let OutputNumber { number } = self;
-        number
-    }
-}
-
-impl ObjectNumber {
-    pub fn new(number: u8) -> Option<ObjectNumber>
-        ensures { Checked (λ o. o.number) (nat_lt number 16) number result }
-    {
-        if number < 16 {
-            Some(ObjectNumber { number })
-        } else {
-            None
-        }
-    }
-
-    pub fn get(self) -> u8
-        ensures is { result ≡ self.number }
-        ensures inside { result < 16 }
-    {
-        let ObjectNumber { number } = self;
-        number
-    }
-}
-
-impl ServerCount {
-    pub fn new(count: u8) -> Option<ServerCount>
-        ensures { Checked (λ c. c.count) (nat_le count 8) count result }
-    {
-        if count <= 8 {
-            Some(ServerCount { count })
-        } else {
-            None
-        }
-    }
-
-    pub fn get(self) -> u8
-        ensures is { result ≡ self.count }
-        ensures inside { result ≤ 8 }
-    {
-        let ServerCount { count } = self;
-        count
+        usize::from(self.get())
     }
 }

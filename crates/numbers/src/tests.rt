@@ -1,7 +1,8 @@
 // The numbers at the ends of their ranges, by example.
 use crate::epoch::Epoch;
+use crate::kinds::{InputNumber, ObjectNumber, OutputNumber, ServerCount};
 use crate::moment::{Drift, LeaseLength, Moment};
-use crate::numbering::{InputNumber, ObjectNumber, OutputNumber, ServerCount};
+use crate::out_of_range::OutOfRange;
 use crate::time::Time;
 use crate::version::Version;
 use std::test::Fail;
@@ -45,28 +46,28 @@ fn versions_in_order(rt: HostRuntime) {
     }
     let low = Version::STARTING;
     let high = Version(65_537);
-    assert!(rt; high.is_above(low));
-    assert!(rt; !low.is_above(high));
-    assert!(rt; !low.is_above(low));
-    assert_eq!(rt; low.raised(high), high);
-    assert_eq!(rt; high.raised(low), high);
+    assert!(rt; high > low);
+    assert!(rt; !(low > high));
+    assert!(rt; !(low > low));
+    assert_eq!(rt; low.max(high), high);
+    assert_eq!(rt; high.max(low), high);
 }
 
 #[test]
 fn epochs_and_times_in_order(rt: HostRuntime) {
-    assert_eq!(rt; Epoch::FIRST.raised(Epoch(2)), Epoch(2));
-    assert_eq!(rt; Epoch(2).raised(Epoch::FIRST), Epoch(2));
-    assert_eq!(rt; Time::ZERO.raised(Time(1)), Time(1));
-    assert_eq!(rt; Time(1).raised(Time::ZERO), Time(1));
+    assert_eq!(rt; Epoch::FIRST.max(Epoch(2)), Epoch(2));
+    assert_eq!(rt; Epoch(2).max(Epoch::FIRST), Epoch(2));
+    assert_eq!(rt; Time::ZERO.max(Time(1)), Time(1));
+    assert_eq!(rt; Time(1).max(Time::ZERO), Time(1));
     let end = Time(1_490);
     assert!(rt; end.is_live_at(Time(1_489)));
     assert!(rt; !end.is_live_at(end));
     assert!(rt; !end.is_live_at(Time(1_491)));
 }
 
-fn lease_end(stamp: u64, length: u32, drift: u16) -> Option<Time> {
-    let stamp = Moment::new(Time(stamp))?;
-    Some(stamp.lease_end(LeaseLength::new(length)?, Drift::new(drift)?))
+fn lease_end(stamp: u64, length: u32, drift: u16) -> Result<Time, OutOfRange> {
+    let stamp = Moment::try_from(Time(stamp))?;
+    Ok(stamp.lease_end(LeaseLength::try_from(length)?, Drift::try_from(drift)?))
 }
 
 #[test]
@@ -79,7 +80,7 @@ fn leases_end_early_by_the_drift(rt: HostRuntime) {
         (500, 999, 999, 500),
         (1 << 40, 1_000_000_000, 0, 1_100_511_627_776),
     ] {
-        assert_eq!(rt; lease_end(stamp, length, drift), Some(Time(end)));
+        assert_eq!(rt; lease_end(stamp, length, drift), Ok(Time(end)));
     }
 }
 
@@ -98,7 +99,7 @@ fn drifts_keep_clocks_together(rt: HostRuntime) -> Result<(), Fail> {
         (999, u64::MAX, 0, true),
         (999, 0, u64::MAX, false),
     ] {
-        assert_eq!(rt; Drift::new(drift).ok_or(drift)?.keeps(x, y), keeps);
+        assert_eq!(rt; Drift::try_from(drift)?.keeps(x, y), keeps);
     }
     Ok(())
 }
@@ -106,36 +107,36 @@ fn drifts_keep_clocks_together(rt: HostRuntime) -> Result<(), Fail> {
 #[test]
 fn numbers_at_the_ends_of_their_ranges(rt: HostRuntime) -> Result<(), Fail> {
     for time in [Time::ZERO, Time(1 << 40)] {
-        assert_eq!(rt; Moment::new(time).ok_or(time)?.time(), time);
+        assert_eq!(rt; Time::from(Moment::try_from(time)?), time);
     }
-    assert!(rt; Moment::new(Time((1 << 40) + 1)).is_none());
+    assert_eq!(rt; Moment::try_from(Time((1 << 40) + 1)), Err(OutOfRange));
     for micros in [0, 1_000_000_000] {
-        assert_eq!(rt; LeaseLength::new(micros).ok_or(micros)?.micros(), micros);
+        assert_eq!(rt; LeaseLength::try_from(micros)?.micros(), micros);
     }
-    assert!(rt; LeaseLength::new(1_000_000_001).is_none());
+    assert_eq!(rt; LeaseLength::try_from(1_000_000_001), Err(OutOfRange));
     for thousandths in [0, 999] {
-        let drift = Drift::new(thousandths).ok_or(thousandths)?;
+        let drift = Drift::try_from(thousandths)?;
         assert_eq!(rt; drift.thousandths(), thousandths);
     }
-    assert!(rt; Drift::new(1_000).is_none());
+    assert_eq!(rt; Drift::try_from(1_000), Err(OutOfRange));
     Ok(())
 }
 
 #[test]
 fn servers_and_objects_by_number(rt: HostRuntime) -> Result<(), Fail> {
     for number in [0, 7] {
-        assert_eq!(rt; InputNumber::new(number).ok_or(number)?.get(), number);
-        assert_eq!(rt; OutputNumber::new(number).ok_or(number)?.get(), number);
+        assert_eq!(rt; InputNumber::try_from(number)?.get(), number);
+        assert_eq!(rt; OutputNumber::try_from(number)?.get(), number);
     }
-    assert!(rt; InputNumber::new(8).is_none());
-    assert!(rt; OutputNumber::new(8).is_none());
+    assert_eq!(rt; InputNumber::try_from(8), Err(OutOfRange));
+    assert_eq!(rt; OutputNumber::try_from(8), Err(OutOfRange));
     for number in [0, 15] {
-        assert_eq!(rt; ObjectNumber::new(number).ok_or(number)?.get(), number);
+        assert_eq!(rt; ObjectNumber::try_from(number)?.get(), number);
     }
-    assert!(rt; ObjectNumber::new(16).is_none());
+    assert_eq!(rt; ObjectNumber::try_from(16), Err(OutOfRange));
     for count in [0, 8] {
-        assert_eq!(rt; ServerCount::new(count).ok_or(count)?.get(), count);
+        assert_eq!(rt; ServerCount::try_from(count)?.get(), count);
     }
-    assert!(rt; ServerCount::new(9).is_none());
+    assert_eq!(rt; ServerCount::try_from(9), Err(OutOfRange));
     Ok(())
 }

@@ -1,8 +1,8 @@
 ghost use Rattle.std.specs.Prelude.{◌≡◌};
-ghost use Rattle.numbers.specs.Numbers.{live, longer};
+ghost use Rattle.numbers.specs.Numbers.{live};
 
 // Whole microseconds on the clock of one server.
-#[derive(Clone, Copy, Debug, PartialEq, Eq)]
+#[derive(Clone, Copy, Debug, PartialEq, Eq, PartialOrd, Ord)]
 pub struct Time(pub u64);
 
 impl Time {
@@ -15,13 +15,6 @@ impl Time {
     pub fn is_live_at(self, clock: Time) -> bool
         ensures { result ≡ live clock self }
     {
-        clock.0 < self.0
-    }
-
-    // The later of the two.
-    pub fn raised(self, to: Time) -> Time
-        ensures { result ≡ longer self to }
-    {
-        if to.0 > self.0 { to } else { self }
+        clock < self
     }
 }

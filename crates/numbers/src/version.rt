@@ -1,8 +1,8 @@
-ghost use Rattle.std.specs.Prelude.{◌≡◌, nat_lt};
-ghost use Rattle.numbers.specs.Numbers.{version_of, clock_of, next_version, is_version, raised};
+ghost use Rattle.std.specs.Prelude.{◌≡◌};
+ghost use Rattle.numbers.specs.Numbers.{version_of, clock_of, next_version, is_version};
 
 // A version: clock × 65,536 + operation number. 0 stands for "none".
-#[derive(Clone, Copy, Debug, PartialEq, Eq)]
+#[derive(Clone, Copy, Debug, PartialEq, Eq, PartialOrd, Ord)]
 pub struct Version(pub u32);
 
 impl Version {
@@ -32,23 +32,10 @@ impl Version {
         (self.0 / 65_536) as u16
     }
 
-    pub fn is_above(self, other: Version) -> bool
-        ensures { result ≡ nat_lt other.0 self.0 }
-    {
-        self.0 > other.0
-    }
-
     // Whether the number is a version: 65,536 to 2^32 - 1.
     pub fn is_version(self) -> bool
         ensures { result ≡ is_version self }
     {
-        self.0 >= 65_536
-    }
-
-    // The higher of the two.
-    pub fn raised(self, to: Version) -> Version
-        ensures { result ≡ raised self to }
-    {
-        if to.is_above(self) { to } else { self }
+        self >= Version::STARTING
     }
 }

@@ -4,7 +4,7 @@ use Rattle.quorum.specs.Systems.{System}
 use Rattle.numbers.specs.Numbers.{between}
 use Rattle.rules.specs.declared.message.Message.{Message}
 use Rattle.rules.specs.declared.message.Message.TheVariants.{ClockQuestion, ClockAnswer, WriteRequest, WriteAnswer, ReadRequest, ReadAnswer, RenewalRequest, RenewalAnswer, Invalidation, InvalidationAnswer}
-use Rattle.rules.specs.Operation.{Operation, asking, sending, reading, Asking, Sending, Reading, hears_clock, knows_clock, gets_version, hears_named, is_written, hears_pair, is_read}
+use Rattle.rules.specs.Operation.{Operation, unused, asking, sending, reading, ended, Asking, Sending, Reading, hears_clock, knows_clock, gets_version, hears_named, is_written, hears_pair, is_read}
 use Rattle.rules.specs.Ranges.{Counts, numbers_fit, operation_fits, state_fits, has_room}
 
 -- the widest ranges that a field has: as many servers as the systems have members, 16 objects, 1,024 operations
@@ -19,6 +19,14 @@ abbrev pub refusal_with : System → System → ℕ → Bool → Bool → Messag
 refusal_with inputs outputs own fits room m =
     cond (too_many inputs outputs) 2
     (cond (numbers_fit (widest inputs outputs) m && operation_fits (λ p. (p == own) && (between 1 1024 own && fits)) (λ _. room) m) 0 33)
+
+-- the number of the operation whose state it is
+abbrev pub own_number : Operation → ℕ
+own_number unused = 0
+own_number (asking a) = a.operation
+own_number (sending w) = w.operation
+own_number (reading r) = r.operation
+own_number ended = 0
 
 abbrev pub refusal_alone : System → System → ℕ → Operation → Message → ℕ
 refusal_alone inputs outputs own x m = refusal_with inputs outputs own (state_fits (widest inputs outputs) own x) (has_room x) m

@@ -1,6 +1,6 @@
 pub mod Alone
 pub mod Counts
-pub mod Pairwise
+pub mod Gathered
 pub mod Says
 pub mod Senders
 pub mod States

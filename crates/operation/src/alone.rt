@@ -1,70 +1,83 @@
 // What a state that is kept alone accepts.
-ghost use Rattle.std.specs.Prelude.{◌≡◌, ◌&&◌, ◌||◌, ◌==◌};
-ghost use Rattle.rules.specs.Ranges.{operation_fits};
-ghost use Rattle.operation.specs.Alone.{too_many, widest, refusal_with};
+ghost use Rattle.std.specs.Prelude.{◌≡◌, ◌&&◌, ◌==◌};
+ghost use Rattle.numbers.specs.Numbers.{between};
+ghost use Rattle.rules.specs.Operation.{Operation};
+ghost use Rattle.rules.specs.Ranges.{operation_fits, state_fits, has_room};
+ghost use Rattle.operation.specs.Alone.{too_many, widest, own_number, refusal_alone};
 ghost use Rattle.operation.specs.Counts.{counts_of};
-ghost use Rattle.operation.specs.Says.{refusal_number};
+ghost use Rattle.operation.specs.Says.{Accepted};
 
 use crate::ranges::Counts;
-use quorum::{QuorumSystem, Refusal};
+use quorum::{QuorumSystem, Refusal, Systems};
 use rules::Message;
 
 // Whether a system has more members than a field has servers on a side.
-fn too_many<I: QuorumSystem, O: QuorumSystem>(inputs: &I, outputs: &O) -> bool
-    ensures { result ≡ too_many (I.QuorumSystem.meaning inputs.now) (O.QuorumSystem.meaning outputs.now) }
+fn too_many<I: QuorumSystem, O: QuorumSystem>(systems: &Systems<I, O>) -> bool
+    ensures { result ≡ too_many (I.QuorumSystem.meaning systems.now.inputs) (O.QuorumSystem.meaning systems.now.outputs) }
 {
-    inputs.count() > 8 || outputs.count() > 8
+    systems.inputs.count() > 8 || systems.outputs.count() > 8
 }
 
 // The widest ranges that a field over these systems has.
-pub(crate) fn widest<I: QuorumSystem, O: QuorumSystem>(inputs: &I, outputs: &O) -> Counts
-    ensures { counts_of result ≡ widest (I.QuorumSystem.meaning inputs.now) (O.QuorumSystem.meaning outputs.now) }
+fn widest<I: QuorumSystem, O: QuorumSystem>(systems: &Systems<I, O>) -> Counts
+    ensures { counts_of result ≡ widest (I.QuorumSystem.meaning systems.now.inputs) (O.QuorumSystem.meaning systems.now.outputs) }
 {
     Counts {
-        inputs: inputs.count(),
-        outputs: outputs.count(),
+        inputs: systems.inputs.count(),
+        outputs: systems.outputs.count(),
         objects: 16,
     }
 }
 
-// Whether the operation that the message names is known, and has room for a version where the
-// message is a clock answer. `known` and `room` are what is so of the one operation that is begun.
-fn operation_fits(message: &Message, own: u16, known: bool, room: bool) -> bool
-    ensures { result ≡ operation_fits (λ p. (p == own) && known) (λ _. room) message.now }
-{
-    match message {
-        Message::ClockQuestion { operation, .. }
-        | Message::WriteRequest { operation, .. }
-        | Message::WriteAnswer { operation, .. }
-        | Message::ReadRequest { operation, .. }
-        | Message::ReadAnswer { operation, .. } => *operation == own && known,
-        Message::ClockAnswer { operation, .. } => *operation == own && known && room,
-        Message::RenewalRequest { .. }
-        | Message::RenewalAnswer { .. }
-        | Message::Invalidation { .. }
-        | Message::InvalidationAnswer { .. } => true,
-    }
-}
+// A state of an operation: what it means to the rules, and so which messages it accepts.
+pub(crate) trait State: Sized {
+    ghost meaning: { Self → Operation };
 
-// Why a state that is kept alone refuses a message: a system that is too large, then a number out of
-// range. `fits` says whether the state itself is in range, `room` whether there is a clock above its own.
-pub(crate) fn refusal_alone<I: QuorumSystem, O: QuorumSystem>(
-    message: &Message,
-    inputs: &I,
-    outputs: &O,
-    own: u16,
-    fits: bool,
-    room: bool,
-) -> Option<Refusal>
-    ensures { refusal_number result ≡ refusal_with (I.QuorumSystem.meaning inputs.now) (O.QuorumSystem.meaning outputs.now) own fits room message.now }
-{
-    if too_many(inputs, outputs) {
-        return Some(Refusal::TooManyMembers);
+    // The number of the operation whose state this is.
+    fn operation(&self) -> u16
+        ensures { result ≡ own_number (meaning self.now) };
+
+    // Whether the state is in range as that of the operation with this number.
+    fn fits(&self, counts: Counts, operation: u16) -> bool
+        ensures { result ≡ state_fits (counts_of counts) operation (meaning self.now) };
+
+    // Whether there is a clock above the one that an asking write gathered.
+    fn has_room(&self) -> bool
+        ensures { result ≡ has_room (meaning self.now) };
+
+    // Whether the operation that the message names, if it names one, is this one, begun and in range,
+    // with room for a version where the message is a clock answer.
+    final fn is_named(&self, message: &Message, counts: Counts) -> bool
+        ensures { let own = own_number (meaning self.now) in result ≡ operation_fits (λ p. (p == own) && (between 1 1024 own && state_fits (counts_of counts) own (meaning self.now))) (λ _. has_room (meaning self.now)) message.now }
+    {
+        let Some(operation) = message.operation() else {
+            return true;
+        };
+        let own = self.operation();
+        let begun = operation == own && (1..=1024).contains(&own) && self.fits(counts, own);
+        match message {
+            Message::ClockAnswer { .. } => begun && self.has_room(),
+            _ => begun,
+        }
     }
-    let known = 1 <= own && own <= 1024 && fits;
-    if widest(inputs, outputs).fit(message) && operation_fits(message, own, known, room) {
-        None
-    } else {
-        Some(Refusal::OutOfRange)
+
+    // The state itself where it takes the message, and beside the refusal otherwise: of a system that
+    // is too large, then of a number out of range.
+    final fn accept<I: QuorumSystem, O: QuorumSystem>(
+        self,
+        message: &Message,
+        systems: &Systems<I, O>,
+    ) -> Result<Self, (Refusal, Self)>
+        ensures { Accepted (refusal_alone (I.QuorumSystem.meaning systems.now.inputs) (O.QuorumSystem.meaning systems.now.outputs) (own_number (meaning self)) (meaning self) message.now) self result }
+    {
+        if too_many(systems) {
+            return Err((Refusal::TooManyMembers, self));
+        }
+        let counts = widest(systems);
+        if counts.fit(message) && self.is_named(message, counts) {
+            Ok(self)
+        } else {
+            Err((Refusal::OutOfRange, self))
+        }
     }
 }

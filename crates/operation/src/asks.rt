@@ -1,19 +1,17 @@
 // What an asking write does with an answer.
-ghost use Rattle.std.specs.Prelude.{◌≡◌, ◌<◌, not, ◌==◌};
-ghost use Rattle.rules.specs.Operation.{asking, first_asking, hears_clock};
-ghost use Rattle.rules.specs.Ranges.{asking_fits};
-ghost use Rattle.operation.specs.Alone.{refusal_alone, asks_next, asking_alone};
-ghost use Rattle.operation.specs.Counts.{counts_of};
-ghost use Rattle.operation.specs.Says.{HandsBack, refusal_number, asking_step, asking_says};
-ghost use Rattle.operation.specs.States.{asking_of};
+ghost use Rattle.std.specs.Prelude.{◌≡◌, ◌<◌};
+ghost use Rattle.rules.specs.Operation.{asking, first_asking, hears_clock, gets_version};
+ghost use Rattle.operation.specs.Alone.{asks_next, asking_alone};
+ghost use Rattle.operation.specs.Says.{HandsBack, asking_step, asking_says};
+ghost use Rattle.operation.specs.States.{asking_of, sending_of};
 
-use crate::alone::{refusal_alone, widest};
+use crate::alone::State;
 use crate::asking::AskingWrite;
 use crate::ranges::Counts;
 use crate::sending::SendingWrite;
 use crate::steps::AskingStep;
 use numbers::Version;
-use quorum::{MemberSet, QuorumSystem, Refusal};
+use quorum::{MemberSet, QuorumSystem, Refusal, Systems};
 use rules::Message;
 
 impl AskingWrite {
@@ -35,55 +33,18 @@ impl AskingWrite {
     pub fn answer<I: QuorumSystem, O: QuorumSystem>(
         self,
         message: &Message,
-        inputs: &I,
-        outputs: &O,
+        systems: &Systems<I, O>,
     ) -> Result<AskingStep, (Refusal, AskingWrite)>
-        ensures does { asking_alone (I.QuorumSystem.meaning inputs.now) (O.QuorumSystem.meaning outputs.now) message.now (asking_of self) ≡ asking_says result }
+        ensures does { asking_alone (I.QuorumSystem.meaning systems.now.inputs) (O.QuorumSystem.meaning systems.now.outputs) message.now (asking_of self) ≡ asking_says result }
         ensures same { HandsBack self result }
     {
-        if let Some(refusal) = self.refusal(message, inputs, outputs) {
-            return Err((refusal, self));
-        }
+        let write = self.accept(message, systems)?;
         match message {
-            Message::ClockAnswer { input, clock, .. } => Ok(self.hear(*input, *clock, inputs)),
-            _ => Ok(AskingStep::Asking(self)),
+            Message::ClockAnswer { input, clock, .. } => {
+                Ok(write.hear(*input, *clock, &systems.inputs))
+            }
+            _ => Ok(AskingStep::Asking(write)),
         }
-    }
-
-    fn refusal<I: QuorumSystem, O: QuorumSystem>(
-        &self,
-        message: &Message,
-        inputs: &I,
-        outputs: &O,
-    ) -> Option<Refusal>
-        ensures { refusal_number result ≡ refusal_alone (I.QuorumSystem.meaning inputs.now) (O.QuorumSystem.meaning outputs.now) self.now.operation (asking (asking_of self.now)) message.now }
-    {
-        let fits = self.fits(widest(inputs, outputs), self.operation);
-        refusal_alone(
-            message,
-            inputs,
-            outputs,
-            self.operation,
-            fits,
-            self.has_room(),
-        )
-    }
-
-    // Whether there is a clock above the highest that was gathered.
-    pub(crate) fn has_room(&self) -> bool
-        ensures { result ≡ not (self.now.clock == 65535) }
-    {
-        self.clock != 65_535
-    }
-
-    // Whether the state is in range as that of the operation.
-    pub(crate) fn fits(&self, counts: Counts, operation: u16) -> bool
-        ensures { result ≡ asking_fits (counts_of counts) operation (asking_of self.now) }
-    {
-        self.operation == operation
-            && self.object < counts.objects
-            && self.senders.is_within(counts.inputs)
-            && self.clock <= 65_535
     }
 
     // The clock of one input server.
@@ -91,30 +52,49 @@ impl AskingWrite {
         requires { (self.clock < 65535) × (clock < 65535) }
         ensures { asking_step result ≡ asks_next (I.meaning inputs.now) (hears_clock input clock (asking_of self)) }
     {
-        let AskingWrite {
-            operation,
-            object,
-            value,
-            senders,
-            clock: highest,
-        } = self;
-        let senders = senders.with(input);
-        let clock = if clock > highest { clock } else { highest };
-        if inputs.is_read_set(senders) {
-            return AskingStep::Sending(SendingWrite {
-                operation,
-                object,
-                version: Version::new(clock + 1, operation),
-                value,
-                named: [MemberSet::EMPTY; 8],
-            });
+        let write = AskingWrite {
+            senders: self.senders.with(input),
+            clock: self.clock.max(clock),
+            ..self
+        };
+        if inputs.is_read_set(write.senders) {
+            AskingStep::Sending(write.with_version())
+        } else {
+            AskingStep::Asking(write)
         }
-        AskingStep::Asking(AskingWrite {
-            operation,
-            object,
-            value,
-            senders,
-            clock,
-        })
+    }
+
+    // The write with its version, which has named nobody yet.
+    fn with_version(self) -> SendingWrite
+        requires { self.clock < 65535 }
+        ensures { sending_of result ≡ gets_version (asking_of self) }
+    {
+        SendingWrite {
+            operation: self.operation,
+            object: self.object,
+            version: Version::new(self.clock + 1, self.operation),
+            value: self.value,
+            named: [MemberSet::EMPTY; 8],
+        }
+    }
+}
+
+impl State for AskingWrite {
+    ghost meaning = { λ w. asking (asking_of w) };
+
+    fn operation(&self) -> u16 {
+        self.operation
+    }
+
+    fn fits(&self, counts: Counts, operation: u16) -> bool {
+        // any clock of 16 bits is in range, which the check knows of a number that is read
+        let _clock = self.clock;
+        self.operation == operation
+            && self.object < counts.objects
+            && self.senders.is_within(counts.inputs)
+    }
+
+    fn has_room(&self) -> bool {
+        self.clock < u16::MAX
     }
 }

@@ -18,5 +18,5 @@ pub use asking::AskingWrite;
 pub use ranges::Counts;
 pub use read::Read;
 pub use sending::SendingWrite;
-pub use steps::{AskingStep, ReadStep, SendingStep};
+pub use steps::{AskingStep, End, Step};
 pub use table::Operation;

@@ -4,6 +4,7 @@ ghost use Rattle.rules.specs.Ranges.{state_fits, has_room};
 ghost use Rattle.operation.specs.Counts.{counts_of};
 ghost use Rattle.operation.specs.States.{operation_of};
 
+use crate::alone::State;
 use crate::ranges::Counts;
 use crate::table::Operation;
 

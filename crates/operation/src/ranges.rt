@@ -5,7 +5,6 @@ ghost use Rattle.rules.specs.Ranges.{ends, pair_fits, pairs_fit, list_fits, numb
 ghost use Rattle.rules.specs.Renewals.{asks_object, asks_volume};
 ghost use Rattle.rules.specs.Lists.{list_of};
 ghost use Rattle.operation.specs.Counts.{counts_of};
-ghost use Rattle.operation.specs.Pairwise.{fits_at};
 ghost use Rattle.operation.specs.Senders.{between_servers};
 
 use numbers::{Epoch, Time, Version};
@@ -128,20 +127,7 @@ impl Counts {
     fn pairs_fit(self, list: Pairs) -> bool
         ensures { result ≡ pairs_fit (counts_of self) (list_of list) }
     {
-        let mut fit = true;
-        for place in 0..list.len() {
-            fit = self.and_fits(fit, list, place);
-        }
-        fit
-    }
-
-    fn and_fits(self, fit: bool, list: Pairs, place: u8) -> bool
-        ensures { result ≡ (fit && fits_at (counts_of self) place list) }
-    {
-        match list.get(place) {
-            Some(pair) => fit && self.pair_fits(pair),
-            None => fit,
-        }
+        list.as_slice().iter().all(|pair| self.pair_fits(*pair))
     }
 
     // Length and list of a volume part; both are empty where it was not asked for.
@@ -163,7 +149,7 @@ fn copy_fits(parts: Parts, version: Version, value: u64) -> bool
     if parts.has_object() {
         version.is_version()
     } else {
-        version.0 == 0 && value == 0
+        version == Version::NONE && value == 0
     }
 }
 
@@ -171,18 +157,18 @@ fn copy_fits(parts: Parts, version: Version, value: u64) -> bool
 fn is_answered(clock: u16) -> bool
     ensures { result ≡ between 1 65534 clock }
 {
-    1 <= clock && clock <= 65_534
+    (1..=65_534).contains(&clock)
 }
 
 fn is_epoch(epoch: Epoch) -> bool
     ensures { result ≡ between 1 65536 epoch.0 }
 {
-    1 <= epoch.0 && epoch.0 <= 65_536
+    (1..=65_536).contains(&epoch.0)
 }
 
 // Whether a clock can show the time.
 fn is_shown(time: Time) -> bool
     ensures { result ≡ nat_le time.0 (2 ^ 40) }
 {
-    time.0 <= Time::LAST.0
+    time <= Time::LAST
 }

@@ -1,5 +1,4 @@
 use crate::asking::AskingWrite;
-use crate::read::Read;
 use crate::sending::SendingWrite;
 use numbers::Version;
 
@@ -10,24 +9,17 @@ pub enum AskingStep {
     Sending(SendingWrite),
 }
 
-// What becomes of a sending write: it sends on, or it has ended and is gone.
+// What becomes of a sending write or a read: it goes on, or it has ended and is gone.
 #[derive(Drop)]
-pub enum SendingStep {
-    Sending(SendingWrite),
-    Ended {
-        operation: u16,
-        version: Version,
-        value: u64,
-    },
+pub enum Step<S> {
+    On(S),
+    Ended(End),
 }
 
-// What becomes of a read: it reads on, or it has ended and is gone.
-#[derive(Drop)]
-pub enum ReadStep {
-    Reading(Read),
-    Ended {
-        operation: u16,
-        version: Version,
-        value: u64,
-    },
+// How an operation ended.
+#[derive(Clone, Copy, Debug, PartialEq, Eq)]
+pub struct End {
+    pub operation: u16,
+    pub version: Version,
+    pub value: u64,
 }

@@ -1,6 +1,7 @@
 // A write from its first clock answer to its end.
 use crate::handing::{Heard, clock, last_of, named, sending, write};
 use numbers::Version;
+use operation::End;
 use rules::Message;
 use std::process::Abort;
 use std::test::Fail;
@@ -36,11 +37,11 @@ fn sent(rt: &impl Abort, messages: &[Message], heard: Heard) -> Result<(), Fail>
     Ok(())
 }
 
-const ENDED: Heard = Heard::Ended {
+const ENDED: Heard = Heard::Ended(End {
     operation: 7,
     version: Version(655_367),
     value: 500,
-};
+});
 
 #[test]
 fn ends_when_enough_inputs_named_each_output(rt: HostRuntime) -> Result<(), Fail> {

@@ -1,8 +1,8 @@
-// Hands a state one message after another. Nothing here has a contract: the tests look at what the
-// code does, and not at what it promises.
+// Hands a state one message after another. Nothing here says what it returns: the tests look at what
+// the code does, and not at what it promises.
 use numbers::Version;
-use operation::{AskingStep, AskingWrite, Operation, Read, ReadStep, SendingStep, SendingWrite};
-use quorum::{Majority, MemberSet, QuorumSystem, ReadOneWriteAll, Refusal};
+use operation::{AskingStep, AskingWrite, End, Operation, Read, SendingWrite, Step};
+use quorum::{Majority, MemberSet, QuorumSystem, ReadOneWriteAll, Refusal, Systems};
 use rules::Message;
 
 // What came of a message.
@@ -12,21 +12,16 @@ pub(crate) enum Heard {
     Nothing,
     // the write has this version now
     Sends(Version),
-    Ended {
-        operation: u16,
-        version: Version,
-        value: u64,
-    },
+    Ended(End),
     Refused(u8),
 }
 
 fn ask<I: QuorumSystem, O: QuorumSystem>(
     write: AskingWrite,
     message: &Message,
-    inputs: &I,
-    outputs: &O,
+    systems: &Systems<I, O>,
 ) -> (Operation, Heard) {
-    match write.answer(message, inputs, outputs) {
+    match write.answer(message, systems) {
         Ok(AskingStep::Asking(write)) => (Operation::Asking(write), Heard::Nothing),
         Ok(AskingStep::Sending(write)) => {
             let version = write.version();
@@ -36,70 +31,30 @@ fn ask<I: QuorumSystem, O: QuorumSystem>(
     }
 }
 
-fn send<I: QuorumSystem, O: QuorumSystem>(
-    write: SendingWrite,
-    message: &Message,
-    inputs: &I,
-    outputs: &O,
-) -> (Operation, Heard) {
-    match write.answer(message, inputs, outputs) {
-        Ok(SendingStep::Sending(write)) => (Operation::Sending(write), Heard::Nothing),
-        Ok(
-            SendingStep::Ended {
-                operation,
-                version,
-                value,
-            },
-        ) => (
-            Operation::Ended,
-            Heard::Ended {
-                operation,
-                version,
-                value,
-            },
-        ),
-        Err((refusal, write)) => (Operation::Sending(write), Heard::Refused(refusal.number())),
-    }
-}
-
-fn read<I: QuorumSystem, O: QuorumSystem>(
-    read: Read,
-    message: &Message,
-    inputs: &I,
-    outputs: &O,
-) -> (Operation, Heard) {
-    match read.answer(message, inputs, outputs) {
-        Ok(ReadStep::Reading(read)) => (Operation::Reading(read), Heard::Nothing),
-        Ok(
-            ReadStep::Ended {
-                operation,
-                version,
-                value,
-            },
-        ) => (
-            Operation::Ended,
-            Heard::Ended {
-                operation,
-                version,
-                value,
-            },
-        ),
-        Err((refusal, read)) => (Operation::Reading(read), Heard::Refused(refusal.number())),
+// What came of a sending write or a read, which has this place in a table.
+fn outcome<S, F: FnOnce(S) -> Operation>(
+    answered: Result<Step<S>, (Refusal, S)>,
+    place: F,
+) -> (Operation, Heard)
+    requires { F.IsAlwaysCallable place }
+{
+    match answered {
+        Ok(Step::On(state)) => (place(state), Heard::Nothing),
+        Ok(Step::Ended(end)) => (Operation::Ended, Heard::Ended(end)),
+        Err((refusal, state)) => (place(state), Heard::Refused(refusal.number())),
     }
 }
 
 pub(crate) fn hand<I: QuorumSystem, O: QuorumSystem>(
     state: Operation,
     message: &Message,
-    inputs: &I,
-    outputs: &O,
+    systems: &Systems<I, O>,
 ) -> (Operation, Heard) {
     match state {
-        Operation::Asking(write) => ask(write, message, inputs, outputs),
-        Operation::Sending(write) => send(write, message, inputs, outputs),
-        Operation::Reading(reading) => read(reading, message, inputs, outputs),
-        Operation::Unused => (Operation::Unused, Heard::Nothing),
-        Operation::Ended => (Operation::Ended, Heard::Nothing),
+        Operation::Asking(write) => ask(write, message, systems),
+        Operation::Sending(write) => outcome(write.answer(message, systems), Operation::Sending),
+        Operation::Reading(read) => outcome(read.answer(message, systems), Operation::Reading),
+        Operation::Unused | Operation::Ended => (state, Heard::Nothing),
     }
 }
 
@@ -107,32 +62,32 @@ pub(crate) fn hand<I: QuorumSystem, O: QuorumSystem>(
 pub(crate) fn last<I: QuorumSystem, O: QuorumSystem>(
     begun: Operation,
     messages: &[Message],
-    inputs: &I,
-    outputs: &O,
+    systems: &Systems<I, O>,
 ) -> Heard {
     let mut state = begun;
     let mut heard = Heard::Nothing;
     for message in messages {
-        let (next, said) = hand(state, message, inputs, outputs);
-        state = next;
-        heard = said;
+        (state, heard) = hand(state, message, systems);
     }
     heard
 }
 
-// The same where the input servers go by majority and the output servers by read-one write-all.
+// Input servers by majority and output servers by read-one write-all.
+fn systems(inputs: u8, outputs: u8) -> Result<Systems<Majority, ReadOneWriteAll>, Refusal> {
+    Ok(Systems {
+        inputs: Majority::new(inputs)?,
+        outputs: ReadOneWriteAll::new(outputs)?,
+    })
+}
+
+// The same as `last` by these systems.
 pub(crate) fn last_of(
     begun: Operation,
     messages: &[Message],
     inputs: u8,
     outputs: u8,
 ) -> Result<Heard, Refusal> {
-    Ok(last(
-        begun,
-        messages,
-        &Majority::new(inputs)?,
-        &ReadOneWriteAll::new(outputs)?,
-    ))
+    Ok(last(begun, messages, &systems(inputs, outputs)?))
 }
 
 // A write of 500 to object 3.
@@ -142,10 +97,9 @@ pub(crate) fn write(operation: u16) -> Operation {
 
 // The same, as operation 7, once two of three input servers have answered the clocks 4 and 9.
 pub(crate) fn sending() -> Result<Operation, Refusal> {
-    let inputs = Majority::new(3)?;
-    let outputs = ReadOneWriteAll::new(2)?;
-    let (asking, _) = hand(write(7), &clock(0, 7, 4), &inputs, &outputs);
-    let (sending, _) = hand(asking, &clock(2, 7, 9), &inputs, &outputs);
+    let systems = systems(3, 2)?;
+    let (asking, _) = hand(write(7), &clock(0, 7, 4), &systems);
+    let (sending, _) = hand(asking, &clock(2, 7, 9), &systems);
     Ok(sending)
 }
 

@@ -23,12 +23,7 @@ fn fits(message: &Message) -> bool {
 
 // The place of the first message of which it does not hold that it fits, or does not fit.
 fn first_other(messages: &[Message], fit: bool) -> Option<usize> {
-    for (place, message) in messages.iter().enumerate() {
-        if fits(message) != fit {
-            return Some(place);
-        }
-    }
-    None
+    messages.iter().position(|message| fits(message) != fit)
 }
 
 fn all_fit(rt: &impl Abort, messages: &[Message]) {

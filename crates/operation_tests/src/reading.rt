@@ -1,8 +1,8 @@
 // Reads, from three output servers by majority.
 use crate::handing::{Heard, clock, last, named, pair};
 use numbers::Version;
-use operation::{Operation, Read};
-use quorum::{Majority, ReadOneWriteAll};
+use operation::{End, Operation, Read};
+use quorum::{Majority, ReadOneWriteAll, Systems};
 use rules::Message;
 use std::process::Abort;
 use std::test::Fail;
@@ -14,18 +14,20 @@ const HIGHER: Version = Version(131_079);
 // What comes of the last answer to operation 5, a read of object 3.
 fn reading(rt: &impl Abort, messages: &[Message], heard: Heard) -> Result<(), Fail> {
     let read = Operation::Reading(Read::new(5, 3));
-    let inputs = ReadOneWriteAll::new(2)?;
-    let outputs = Majority::new(3)?;
-    assert_eq!(rt; last(read, messages, &inputs, &outputs), heard);
+    let systems = Systems {
+        inputs: ReadOneWriteAll::new(2)?,
+        outputs: Majority::new(3)?,
+    };
+    assert_eq!(rt; last(read, messages, &systems), heard);
     Ok(())
 }
 
 fn ended(version: Version, value: u64) -> Heard {
-    Heard::Ended {
+    Heard::Ended(End {
         operation: 5,
         version,
         value,
-    }
+    })
 }
 
 #[test]
@@ -91,10 +93,11 @@ fn refused_answers_are_not_gathered(rt: HostRuntime) -> Result<(), Fail> {
 fn begun(rt: &impl Abort, operation: u16, object: u8, heard: Heard) -> Result<(), Fail> {
     let read = Operation::Reading(Read::new(operation, object));
     let first = [pair(0, operation, FIRST, 1)];
-    assert_eq!(rt;
-        last(read, &first, &Majority::new(1)?, &Majority::new(3)?),
-        heard
-    );
+    let systems = Systems {
+        inputs: Majority::new(1)?,
+        outputs: Majority::new(3)?,
+    };
+    assert_eq!(rt; last(read, &first, &systems), heard);
     Ok(())
 }
 

@@ -1,4 +1,4 @@
 pub mod Views
-pub mod Pairwise
+pub mod Hearing
 pub mod Steps
 pub mod Renewing

@@ -1,17 +1,18 @@
 // What an output server keeps of one input server: told versions, copies and the lease.
 ghost use Rattle.std.specs.Prelude.{◌≡◌};
-ghost use Rattle.rules.specs.Lists.{list_of};
-ghost use Rattle.output_server.specs.Pairwise.{known_raised, hears_at};
-ghost use Rattle.rules.specs.Output.{sound_copy, copy_of, hears, hears_all, accepts, takes_copy, takes_lease};
+ghost use Rattle.output_server.specs.Hearing.{known_raised};
+ghost use Rattle.output_server.specs.Renewing.{copy_accepted, with_copy, with_lease, renewed, accepts_after};
+ghost use Rattle.rules.specs.Output.{sound_copy, hears, hears_all};
 
-use numbers::{Drift, Epoch, LeaseLength, Moment, ObjectNumber, Version};
-use rules::{Copied, Link, Pair, Pairs, Parts};
+use crate::renewal::Renewal;
+use numbers::{Drift, Epoch, Version};
+use rules::{Copied, Link, Pair};
 
 // Something was got, nothing newer is known, and it is no older than the lease's epoch.
 pub(crate) fn is_sound(copied: Copied, epoch: Epoch) -> bool
     ensures { result ≡ sound_copy epoch copied }
 {
-    copied.got.0 != 0 && copied.known.0 <= copied.got.0 && epoch.0 <= copied.epoch.0
+    copied.got != Version::NONE && copied.known <= copied.got && epoch <= copied.epoch
 }
 
 // The input server told of a version. One of an object that there is no place for changes nothing.
@@ -24,70 +25,61 @@ pub(crate) fn hear(link: &mut Link, pair: Pair)
 fn raise_known(copies: &mut [Copied], pair: Pair)
     ensures { copies.new ≡ known_raised pair copies.old }
 {
-    let place = pair.object as usize;
+    let place = usize::from(pair.object);
     if place < copies.len() {
-        let known = copies[place].known;
-        copies[place].known = known.raised(pair.version);
+        copies[place].known = copies[place].known.max(pair.version);
     }
 }
 
 // The same for each pair of a list, in order.
-pub(crate) fn hear_all(link: &mut Link, list: Pairs)
-    ensures { link.new ≡ hears_all (list_of list) link.old }
+#[tactic(auto, unfolding(rules::specs::Output::hears_all))]
+fn hear_all(link: &mut Link, list: &[Pair])
+    ensures { link.new ≡ hears_all list.now link.old }
 {
-    for place in 0..list.len() {
-        hear_at(link, list, place);
+    for pair in list {
+        hear(link, *pair);
     }
 }
 
-// The pair at one place of a list.
-fn hear_at(link: &mut Link, list: Pairs, place: u8)
-    ensures { link.new ≡ hears_at place list link.old }
+// A renewal answer: first what its list tells of, then its copy, then its lease. Says whether the
+// copy was accepted.
+pub(crate) fn renew(link: &mut Link, renewal: &Renewal, drift: Drift) -> bool
+    ensures says { result ≡ accepts_after renewal.now link.old }
+    ensures after { link.new ≡ renewed drift.thousandths renewal.now link.old }
 {
-    if let Some(pair) = list.get(place) {
-        hear(link, pair);
-    }
+    hear_all(link, renewal.list.as_slice());
+    let accepted = take_copy(link, renewal);
+    take_lease(link, renewal, drift);
+    accepted
 }
 
 // An object part is accepted if nothing newer is known. Says whether it was.
-pub(crate) fn take_copy(
-    link: &mut Link,
-    parts: Parts,
-    object: ObjectNumber,
-    version: Version,
-    epoch: Epoch,
-) -> bool
-    ensures says { result ≡ accepts parts object.number version link.old }
-    ensures after { link.new ≡ takes_copy parts object.number version epoch link.old }
+fn take_copy(link: &mut Link, renewal: &Renewal) -> bool
+    ensures says { result ≡ copy_accepted renewal.now link.old }
+    ensures after { link.new ≡ with_copy renewal.now link.old }
 {
-    let place = object.get() as usize;
+    let place = renewal.object.index();
     let copied = link.copies[place];
-    let accepted = parts.has_object() && copied.known.0 <= version.0;
+    let accepted = renewal.parts.has_object() && copied.known <= renewal.version;
     if accepted {
         link.copies[place] = Copied {
-            got: version,
-            known: version,
-            epoch: copied.epoch.raised(epoch),
+            got: renewal.version,
+            known: renewal.version,
+            epoch: copied.epoch.max(renewal.epoch),
         };
     }
     accepted
 }
 
 // A volume part raises the lease's epoch, and its end where a lease was granted.
-pub(crate) fn take_lease(
-    link: &mut Link,
-    parts: Parts,
-    epoch: Epoch,
-    stamp: Moment,
-    length: LeaseLength,
-    drift: Drift,
-)
-    ensures { link.new ≡ takes_lease parts epoch (record { 0 = stamp.micros }) length.micros drift.thousandths link.old }
+fn take_lease(link: &mut Link, renewal: &Renewal, drift: Drift)
+    ensures { link.new ≡ with_lease drift.thousandths renewal.now link.old }
 {
-    if parts.has_volume() {
-        link.epoch = link.epoch.raised(epoch);
-        if length.micros() > 0 {
-            link.until = link.until.raised(stamp.lease_end(length, drift));
+    if renewal.parts.has_volume() {
+        link.epoch = link.epoch.max(renewal.epoch);
+        if renewal.length.micros() > 0 {
+            let end = renewal.stamp.lease_end(renewal.length, drift);
+            link.until = link.until.max(end);
         }
     }
 }

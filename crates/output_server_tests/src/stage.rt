@@ -4,7 +4,7 @@ use numbers::{
 };
 use output_server::{OutputServer, Renewal};
 use quorum::{Majority, Refusal};
-use rules::{Message, Pair, Pairs, Parts};
+use rules::{Log, Message, Pair, Pairs, Parts};
 use std::process::Abort;
 use std::test::*;
 
@@ -39,14 +39,14 @@ pub(crate) struct Stage {
 
 impl Stage {
     pub(crate) fn new(inputs: u8, clock: u64) -> Result<Stage, Fail> {
-        let clock = Moment::new(Time(clock)).ok_or(Refusal::OutOfRange)?;
+        let clock = Moment::try_from(Time(clock))?;
         Ok(Stage {
             server: OutputServer::new(clock),
             log: [UNUSED; 12],
             inputs: Majority::new(inputs)?,
-            me: OutputNumber::new(4).ok_or(Refusal::OutOfRange)?,
-            object: ObjectNumber::new(3).ok_or(Refusal::OutOfRange)?,
-            drift: Drift::new(10).ok_or(Refusal::OutOfRange)?,
+            me: OutputNumber::try_from(4)?,
+            object: ObjectNumber::try_from(3)?,
+            drift: Drift::try_from(10)?,
         })
     }
 
@@ -57,40 +57,38 @@ impl Stage {
 
     // A read request. Says how many messages are logged.
     pub(crate) fn read(&mut self) -> Result<usize, Fail> {
-        let made = self
-            .server
-            .answer_read(self.me, &self.inputs, 9, self.object, &mut self.log, 0)?;
-        Ok(made)
+        let mut log = Log::new(&mut self.log, 0);
+        self.server
+            .answer_read(self.me, &self.inputs, 9, self.object, &mut log)?;
+        Ok(log.made())
     }
 
-    // The number by which a read request is refused, or 0 where it is not.
-    pub(crate) fn read_refused(&mut self) -> u8 {
-        match self
-            .server
-            .answer_read(self.me, &self.inputs, 9, self.object, &mut self.log, 0)
-        {
-            Ok(_) => 0,
-            Err(refusal) => refusal.number(),
-        }
+    // The number by which a read request is refused, if it is.
+    pub(crate) fn read_refused(&mut self) -> Option<u8> {
+        let mut log = Log::new(&mut self.log, 0);
+        self.server
+            .answer_read(self.me, &self.inputs, 9, self.object, &mut log)
+            .err()
+            .map(|refusal| refusal.number())
     }
 
     // A renewal answer of an input server. Says how many messages are logged.
     pub(crate) fn renewed(&mut self, input: u8, answer: Answer) -> Result<usize, Fail> {
-        let input = InputNumber::new(input).ok_or(Refusal::OutOfRange)?;
+        let input = InputNumber::try_from(input)?;
         let renewal = Renewal {
             parts: answer.parts,
             object: self.object,
             version: answer.version,
             value: answer.value,
             epoch: Epoch(answer.epoch),
-            stamp: Moment::new(Time(answer.stamp)).ok_or(Refusal::OutOfRange)?,
-            length: LeaseLength::new(answer.length).ok_or(Refusal::OutOfRange)?,
+            stamp: Moment::try_from(Time(answer.stamp))?,
+            length: LeaseLength::try_from(answer.length)?,
             list: answer.list,
         };
-        let made = self
-            .server
-            .take_renewal(self.me, input, &renewal, self.drift, &mut self.log, 0)?;
-        Ok(made)
+        let mut log = Log::new(&mut self.log, 0);
+        self.server
+            .take_renewal(self.me, input, &renewal, self.drift, &mut log)?;
+        Ok(log.made())
     }
 
     // An invalidation of object 3 by an input server, and that it is acknowledged.
@@ -100,25 +98,27 @@ impl Stage {
         input: u8,
         version: Version,
     ) -> Result<(), Fail> {
-        let number = InputNumber::new(input).ok_or(Refusal::OutOfRange)?;
-        let made = self
-            .server
-            .take_invalidation(self.me, number, self.object, version, &mut self.log, 0)?;
-        assert_eq!(rt; made, 1);
+        let number = InputNumber::try_from(input)?;
+        let mut log = Log::new(&mut self.log, 0);
+        self.server
+            .take_invalidation(self.me, number, self.object, version, &mut log)?;
+        assert_eq!(rt; log.made(), 1);
         self.expect_acknowledged(rt, input, told(version))
     }
 
-    // The number by which an invalidation is refused where 4 messages of 12 are made, and 8 free, or
-    // 0 where it is not.
-    pub(crate) fn invalidation_refused(&mut self, input: u8, version: Version) -> Result<u8, Fail> {
-        let number = InputNumber::new(input).ok_or(Refusal::OutOfRange)?;
+    // The number by which an invalidation is refused where 4 messages of 12 are made, and 8 free, if
+    // it is.
+    pub(crate) fn invalidation_refused(
+        &mut self,
+        input: u8,
+        version: Version,
+    ) -> Result<Option<u8>, Fail> {
+        let number = InputNumber::try_from(input)?;
+        let mut log = Log::new(&mut self.log, 4);
         let said = self
             .server
-            .take_invalidation(self.me, number, self.object, version, &mut self.log, 4);
-        match said {
-            Ok(_) => Ok(0),
-            Err(refusal) => Ok(refusal.number()),
-        }
+            .take_invalidation(self.me, number, self.object, version, &mut log);
+        Ok(said.err().map(|refusal| refusal.number()))
     }
 
     pub(crate) fn expect(

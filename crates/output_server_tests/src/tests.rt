@@ -182,9 +182,12 @@ fn too_few_are_good(rt: HostRuntime) -> Result<(), Fail> {
 fn refusals_alter_nothing(rt: HostRuntime) -> Result<(), Fail> {
     let first = Version::new(2, 1);
     let mut stage = renewed(&rt, first, 7)?;
-    assert_eq!(rt; stage.invalidation_refused(0, Version::new(3, 3))?, 32);
+    assert_eq!(rt;
+        stage.invalidation_refused(0, Version::new(3, 3))?,
+        Some(32)
+    );
     stage.expect_read(&rt, first, 7)?;
     let mut wide = Stage::new(9, 500)?;
-    assert_eq!(rt; wide.read_refused(), 2);
+    assert_eq!(rt; wide.read_refused(), Some(2));
     Ok(())
 }

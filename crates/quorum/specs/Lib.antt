@@ -4,3 +4,4 @@ pub mod Sets
 pub mod Systems
 pub mod Laws
 pub mod Members
+pub mod Chains

@@ -1,5 +1,5 @@
 -- Sets of members as numbers: binary place i stands for member i.
-use Rattle.std.specs.Prelude.{◌≡◌, ℕ, zero, suc, ◌-◌, ◌/◌, ◌%◌, ◌^◌, Bool, true, cond, ◌==◌, bit_or, nat_lt}
+use Rattle.std.specs.Prelude.{◌≡◌, ℕ, zero, suc, ◌-◌, ◌/◌, ◌%◌, ◌^◌, Bool, true, cond, ◌&&◌, ◌==◌, bit_or, nat_lt}
 
 -- member i is in the set s
 abbrev pub has : ℕ → ℕ → Bool
@@ -21,3 +21,8 @@ joined s i = cond (nat_lt i 64) (bit_or s (2 ^ i)) s
 abbrev pub set_of : ℕ → (ℕ → Bool) → ℕ
 set_of zero test = 0
 set_of (suc n) test = cond (test n) (bit_or (set_of n test) (2 ^ n)) (set_of n test)
+
+-- every number below n passes a test
+abbrev pub all_below : ℕ → (ℕ → Bool) → Bool
+all_below zero test = true
+all_below (suc n) test = all_below n test && test n

@@ -4,10 +4,12 @@
 #![tactic(auto)]
 
 mod majority;
+mod member_count;
 mod member_set;
 mod read_one_write_all;
 mod refusal;
 mod system;
+mod systems;
 #[cfg(test)]
 mod tests;
 
@@ -16,3 +18,4 @@ pub use member_set::MemberSet;
 pub use read_one_write_all::ReadOneWriteAll;
 pub use refusal::Refusal;
 pub use system::QuorumSystem;
+pub use systems::Systems;

@@ -1,73 +1,74 @@
 ghost use Rattle.std.specs.Prelude.{◌≡◌};
 ghost use Rattle.quorum.specs.Refusals.{number_of};
 
+use thiserror::Error;
+
 // Why a call refuses. A refusal alters nothing, and is known outside by its number.
-#[derive(Clone, Copy, Debug, PartialEq, Eq)]
+#[derive(Clone, Copy, Debug, PartialEq, Eq, Error)]
 pub enum Refusal {
     // opening a field that is open
-    AlreadyOpen,
+    #[error("the field is open already")]
+    AlreadyOpen = 1,
     // a system of more than 8 members on a side of a field
-    TooManyMembers,
+    #[error("a quorum system has more than 8 members")]
+    TooManyMembers = 2,
     // a count of objects outside 1 to 16
-    ObjectCount,
+    #[error("there are 1 to 16 objects")]
+    ObjectCount = 3,
     // a lease length outside 1 to 1,000,000,000
-    LeaseLength,
+    #[error("a lease lasts 1 to 1,000,000,000 microseconds")]
+    LeaseLength = 4,
     // a drift above 999
-    DriftRange,
+    #[error("a drift is at most 999 thousandths")]
+    DriftRange = 5,
     // not one start clock for each server, or one above 2^40
-    StartClocks,
+    #[error("each server starts with a clock of at most 2^40")]
+    StartClocks = 6,
     // a log outside 9 to 65,535 messages, or a table outside 1 to 1,024 operations
-    Lengths,
+    #[error("a log has 9 to 65,535 places, and a table 1 to 1,024")]
+    Lengths = 7,
     // a call before the field is open
-    NotOpen,
+    #[error("the field is not open")]
+    NotOpen = 8,
     // the length of log or table, or a member count, is not the one at opening
-    NotAsOpened,
+    #[error("log, table or systems are not those of the opening")]
+    NotAsOpened = 9,
     // a system of no members, or of more than 64
-    MemberCount,
+    #[error("a quorum system has 1 to 64 members")]
+    MemberCount = 10,
     // not one increment for each server
-    IncrementCount,
+    #[error("an advance has one increment for each server")]
+    IncrementCount = 11,
     // a clock would pass 2^40
-    PastLastTime,
+    #[error("a clock would pass 2^40")]
+    PastLastTime = 12,
     // two increments break the drift
-    DriftBroken,
+    #[error("two increments break the drift")]
+    DriftBroken = 13,
     // an object number at or above the count
-    NoSuchObject,
+    #[error("there is no such object")]
+    NoSuchObject = 21,
     // no place left in the table
-    TableFull,
+    #[error("the table has no place left")]
+    TableFull = 22,
     // fewer than 9 messages free when an operation begins
-    NoRoomToBegin,
+    #[error("fewer than 9 places of the log are free to begin")]
+    NoRoomToBegin = 23,
     // message number 0, or one not yet made
-    NoSuchMessage,
+    #[error("there is no such message")]
+    NoSuchMessage = 31,
     // fewer than 9 messages free when a message is delivered
-    NoRoomToDeliver,
+    #[error("fewer than 9 places of the log are free to deliver")]
+    NoRoomToDeliver = 32,
     // a number of the message, or of the operation that it names, is out of range
-    OutOfRange,
+    #[error("a number of the message, or of its operation, is out of range")]
+    OutOfRange = 33,
 }
 
 impl Refusal {
     pub fn number(self) -> u8
         ensures { result ≡ number_of self }
     {
-        match self {
-            Refusal::AlreadyOpen => 1,
-            Refusal::TooManyMembers => 2,
-            Refusal::ObjectCount => 3,
-            Refusal::LeaseLength => 4,
-            Refusal::DriftRange => 5,
-            Refusal::StartClocks => 6,
-            Refusal::Lengths => 7,
-            Refusal::NotOpen => 8,
-            Refusal::NotAsOpened => 9,
-            Refusal::MemberCount => 10,
-            Refusal::IncrementCount => 11,
-            Refusal::PastLastTime => 12,
-            Refusal::DriftBroken => 13,
-            Refusal::NoSuchObject => 21,
-            Refusal::TableFull => 22,
-            Refusal::NoRoomToBegin => 23,
-            Refusal::NoSuchMessage => 31,
-            Refusal::NoRoomToDeliver => 32,
-            Refusal::OutOfRange => 33,
-        }
+        self as u8
     }
 }

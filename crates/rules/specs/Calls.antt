@@ -1,6 +1,8 @@
 -- The four calls: what each says, and the field, log and table that it leaves.
 use Rattle.std.specs.Prelude.{ℕ, zero, suc, ◌+◌, ◌-◌, Bool, true, cond, not, ◌&&◌, ◌||◌, List, [], ◌∷◌, length, ◌==◌, nat_le, nat_lt, slice_index, slice_index_or, slice_set}
+use Rattle.std.specs.List.{list_all}
 use Rattle.quorum.specs.declared.member_set.MemberSet.{MemberSet}
+use Rattle.quorum.specs.Sets.{all_below}
 use Rattle.quorum.specs.Systems.{System}
 use Rattle.rules.specs.declared.message.Message.{Message}
 use Rattle.rules.specs.declared.message.Message.TheVariants.{ClockQuestion, ClockAnswer, WriteRequest, WriteAnswer, ReadRequest, ReadAnswer, RenewalRequest, RenewalAnswer, Invalidation, InvalidationAnswer}
@@ -39,8 +41,7 @@ opened n m k lease drift clocks s = record {
 }
 
 abbrev pub clocks_fit : List Time → Bool
-clocks_fit [] = true
-clocks_fit (t ∷ ts) = nat_le t.0 last_time && clocks_fit ts
+clocks_fit ts = list_all (λ t. nat_le t.0 last_time) ts
 
 unfoldable pub opening : System → System → ℕ → ℕ → ℕ → List Time → State → Outcome
 opening inputs outputs k lease drift clocks s =
@@ -75,24 +76,19 @@ has_nine s = nat_le (s.made + 9) (length s.log)
 
 -- no clock of the first c input servers would pass the last time
 abbrev pub inputs_stay : List ℕ → ℕ → State → Bool
-inputs_stay increments zero s = true
-inputs_stay increments (suc c) s =
-    inputs_stay increments c s && nat_le ((input_at s c).clock.0 + slice_index increments c) last_time
+inputs_stay increments c s = all_below c (λ i. nat_le ((input_at s i).clock.0 + slice_index increments i) last_time)
 
 abbrev pub outputs_stay : List ℕ → ℕ → State → Bool
-outputs_stay increments zero s = true
-outputs_stay increments (suc c) s =
-    outputs_stay increments c s && nat_le ((output_at s c).clock.0 + slice_index increments (s.frame.counts.n + c)) last_time
+outputs_stay increments c s =
+    all_below c (λ j. nat_le ((output_at s j).clock.0 + slice_index increments (s.frame.counts.n + j)) last_time)
 
 -- x keeps up with each of the increments
 abbrev pub keeps_with : ℕ → ℕ → List ℕ → Bool
-keeps_with drift x [] = true
-keeps_with drift x (y ∷ ys) = keeps_pair drift x y && keeps_with drift x ys
+keeps_with drift x ys = list_all (keeps_pair drift x) ys
 
 -- each of the first list keeps up with each of the second
 abbrev pub keep_each : ℕ → List ℕ → List ℕ → Bool
-keep_each drift [] ys = true
-keep_each drift (x ∷ xs) ys = keeps_with drift x ys && keep_each drift xs ys
+keep_each drift xs ys = list_all (λ x. keeps_with drift x ys) xs
 
 abbrev pub keeps_drift : ℕ → List ℕ → Bool
 keeps_drift drift xs = keep_each drift xs xs

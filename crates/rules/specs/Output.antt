@@ -1,6 +1,6 @@
 -- An output server: what it keeps, when it may answer a read, and what it does with each kind of message.
-use Rattle.std.specs.Prelude.{ℕ, zero, suc, ◌+◌, Bool, true, cond, not, ◌&&◌, List, [], ◌∷◌, length, get_or, replicate, ◌==◌, nat_le, nat_lt, slice_index_or, slice_set}
-use Rattle.quorum.specs.Sets.{set_of}
+use Rattle.std.specs.Prelude.{ℕ, ◌+◌, Bool, cond, not, ◌&&◌, List, [], ◌∷◌, length, get_or, replicate, ◌==◌, nat_le, nat_lt, slice_index_or, slice_set}
+use Rattle.quorum.specs.Sets.{set_of, all_below}
 use Rattle.quorum.specs.Systems.{System}
 use Rattle.numbers.specs.declared.epoch.Epoch.{Epoch}
 use Rattle.rules.specs.declared.kept.Copied.{Copied}
@@ -60,8 +60,7 @@ good O o i = sound O o i && leased O i
 
 -- the newest version is at least what every input server below n told of
 abbrev pub covers : Output → ℕ → ℕ → Bool
-covers O o zero = true
-covers O o (suc n) = covers O o n && nat_le (copy_of (link O n) o).known.0 (newest_of O o).version.0
+covers O o n = all_below n (λ i. nat_le (copy_of (link O i) o).known.0 (newest_of O o).version.0)
 
 -- the validity condition
 abbrev pub valid : System → ℕ → ℕ → Output → Bool

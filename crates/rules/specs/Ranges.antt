@@ -1,6 +1,8 @@
 -- Which messages and which states of operations are in range.
-use Rattle.std.specs.Prelude.{ℕ, zero, suc, ◌^◌, Bool, true, cond, not, ◌&&◌, ◌||◌, List, [], ◌∷◌, length, ◌==◌, nat_le, nat_lt}
+use Rattle.std.specs.Prelude.{ℕ, ◌^◌, Bool, true, cond, not, ◌&&◌, ◌||◌, List, length, Some, None, Option, ◌==◌, nat_le, nat_lt}
+use Rattle.std.specs.List.{list_all}
 use Rattle.quorum.specs.declared.member_set.MemberSet.{MemberSet}
+use Rattle.quorum.specs.Sets.{all_below}
 use Rattle.rules.specs.declared.message.Message.{Message}
 use Rattle.rules.specs.declared.message.Message.TheVariants.{ClockQuestion, ClockAnswer, WriteRequest, WriteAnswer, ReadRequest, ReadAnswer, RenewalRequest, RenewalAnswer, Invalidation, InvalidationAnswer}
 use Rattle.rules.specs.declared.pairs.Pair.{Pair}
@@ -22,8 +24,7 @@ abbrev pub pair_fits : Counts → Pair → Bool
 pair_fits c p = nat_lt p.object c.k && is_version p.version
 
 abbrev pub pairs_fit : Counts → List Pair → Bool
-pairs_fit c [] = true
-pairs_fit c (p ∷ ps) = pair_fits c p && pairs_fit c ps
+pairs_fit c ps = list_all (pair_fits c) ps
 
 abbrev pub list_fits : Counts → Pairs → Bool
 list_fits c l = nat_le l.count shown && pairs_fit c (list_of l)
@@ -63,13 +64,24 @@ operation_fits known room (RenewalAnswer i j a o v x e stamp length l) = true
 operation_fits known room (Invalidation i j o v) = true
 operation_fits known room (InvalidationAnswer j i l) = true
 
+-- the number of the operation that a message names, where it is of a kind that names one
+abbrev pub named_in : Message → Option ℕ
+named_in (ClockQuestion p i) = Some p
+named_in (ClockAnswer i p clock) = Some p
+named_in (WriteRequest p i o v x) = Some p
+named_in (WriteAnswer i p s) = Some p
+named_in (ReadRequest p j o) = Some p
+named_in (ReadAnswer j p v x) = Some p
+named_in (RenewalRequest j i a o stamp) = None
+named_in (RenewalAnswer i j a o v x e stamp length l) = None
+named_in (Invalidation i j o v) = None
+named_in (InvalidationAnswer j i l) = None
+
 -- ---- states of operations
 
 -- output servers below m for the input servers below n, and nothing for the others
 unfoldable pub named_fit : Counts → ℕ → List MemberSet → Bool
-named_fit c zero named = true
-named_fit c (suc i) named = named_fit c i named
-    && cond (nat_lt i c.n) (nat_lt (named_by named i) (2 ^ c.m)) (named_by named i == 0)
+named_fit c n named = all_below n (λ i. cond (nat_lt i c.n) (nat_lt (named_by named i) (2 ^ c.m)) (named_by named i == 0))
 
 abbrev pub asking_fits : Counts → ℕ → Asking → Bool
 asking_fits c p a = a.operation == p && (nat_lt a.object c.k && (nat_lt a.senders (2 ^ c.n) && nat_le a.clock 65535))

@@ -12,7 +12,7 @@ mod tests;
 
 pub use delivery::Delivery;
 pub use kept::{Copied, Held, Ledger, Link, Newest};
-pub use log::has_room;
+pub use log::{Log, has_room};
 pub use message::Message;
 pub use pairs::{Pair, Pairs};
 pub use parts::Parts;

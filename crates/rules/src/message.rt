@@ -1,3 +1,5 @@
+ghost use Rattle.std.specs.Prelude.{◌≡◌};
+
 use crate::pairs::Pairs;
 use crate::parts::Parts;
 use numbers::{Epoch, Time, Version};
@@ -69,4 +71,26 @@ pub enum Message {
         input: u8,
         list: Pairs,
     },
+}
+
+impl Message {
+    ghost use Rattle.rules.specs.Ranges.{named_in};
+
+    // The number of the operation that the message names, if it is of a kind that names one.
+    pub fn operation(&self) -> Option<u16>
+        ensures { result ≡ named_in self.now }
+    {
+        match self {
+            Message::ClockQuestion { operation, .. }
+            | Message::ClockAnswer { operation, .. }
+            | Message::WriteRequest { operation, .. }
+            | Message::WriteAnswer { operation, .. }
+            | Message::ReadRequest { operation, .. }
+            | Message::ReadAnswer { operation, .. } => Some(*operation),
+            Message::RenewalRequest { .. }
+            | Message::RenewalAnswer { .. }
+            | Message::Invalidation { .. }
+            | Message::InvalidationAnswer { .. } => None,
+        }
+    }
 }

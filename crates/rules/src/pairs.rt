@@ -44,7 +44,7 @@ impl Pairs {
     }
 
     // The pairs to read: no more than there is room for, whatever the count says.
-    fn as_slice(&self) -> &[Pair]
+    pub fn as_slice(&self) -> &[Pair]
         ensures is { result.now ≡ list_of self.now }
         ensures short { length result.now ≤ 8 }
     {

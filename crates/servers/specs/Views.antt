@@ -1,5 +1,5 @@
 -- The servers of a field as the rules speak of them.
-use Rattle.std.specs.Prelude.{List, [], ◌∷◌, map}
+use Rattle.std.specs.Prelude.{List, map}
 use Rattle.input_server.specs.Views.{input_of}
 use Rattle.output_server.specs.Views.{output_of}
 use Rattle.rules.specs.Input.{Input}
@@ -8,16 +8,7 @@ use Rattle.servers.specs.declared.inputs.InputServers.{InputServers}
 use Rattle.servers.specs.declared.outputs.OutputServers.{OutputServers}
 
 abbrev pub inputs_of : InputServers → List Input
-inputs_of s =
-    input_of s.input0
-    ∷ (input_of s.input1
-    ∷ (input_of s.input2
-    ∷ (input_of s.input3
-    ∷ (input_of s.input4
-    ∷ (input_of s.input5
-    ∷ (input_of s.input6
-    ∷ (input_of s.input7
-    ∷ [])))))))
+inputs_of s = map input_of s.servers
 
 abbrev pub outputs_of : OutputServers → List Output
 outputs_of s = map output_of s.servers

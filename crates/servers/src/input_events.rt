@@ -1,35 +1,28 @@
 // What can happen to an input server: one of the four kinds of message that it is sent, or that time
 // passes.
-ghost use Rattle.std.specs.Prelude.{◌≡◌, ℕ, List};
+ghost use Rattle.std.specs.Prelude.{◌≡◌, ℕ, false, List, is_ok};
 ghost use Rattle.input_server.specs.Steps.{clock_step, write_step, renewal_step};
 ghost use Rattle.input_server.specs.Views.{input_of};
 ghost use Rattle.rules.specs.declared.message.Message.{Message as AnyMessage};
 ghost use Rattle.rules.specs.Input.{Input};
 ghost use Rattle.rules.specs.Lists.{list_of};
-ghost use Rattle.rules.specs.Steps.{Step, step_says};
+ghost use Rattle.rules.specs.Steps.{Step, step};
 ghost use Rattle.servers.specs.Events.{acknowledgement_step, input_tick};
 
-use input_server::InputServer;
-use numbers::{InputNumber, LeaseLength, ObjectNumber, OutputNumber, ServerCount, Time, Version};
+use input_server::{InputServer, RenewalRequest, WriteRequest};
+use numbers::{InputNumber, OutputNumber};
 use quorum::Refusal;
-use rules::{Message, Pairs, Parts};
+use rules::{Log, Pairs};
 
-// Something that happens to the input server with the number `me`. It may log messages, after the
-// `made` ones that there are, and says how many are made then.
+// Something that happens to the input server with the number `me`. It may log messages.
 pub trait InputEvent {
     // the number of the server, the server, how many messages are made, the log
     ghost happens: { Self → ℕ → Input → ℕ → List AnyMessage → Step Input };
 
-    fn happen(
-        self,
-        me: InputNumber,
-        server: &mut InputServer,
-        log: &mut [Message],
-        made: usize,
-    ) -> Result<usize, Refusal>
-        ensures says { step_says result ≡ (happens self me.number (input_of server.old) made log.old).said }
-        ensures server { input_of server.new ≡ (happens self me.number (input_of server.old) made log.old).server }
-        ensures log { log.new ≡ (happens self me.number (input_of server.old) made log.old).log };
+    fn happen(self, me: InputNumber, server: &mut InputServer, log: &mut Log) -> Result<(), Refusal>
+        ensures does { happens self me.number (input_of server.old) log.old.made log.old.messages.now ≡ step result (input_of server.new) log.new }
+        ensures same { is_ok result ≡ false → (server.new ≡ server.old) × (log.new ≡ log.old) }
+        ensures loan { log.new.messages.ghost_name ≡ log.old.messages.ghost_name };
 }
 
 #[derive(Drop)]
@@ -44,53 +37,23 @@ impl InputEvent for ClockQuestion {
         self,
         me: InputNumber,
         server: &mut InputServer,
-        log: &mut [Message],
-        made: usize,
-    ) -> Result<usize, Refusal> {
-        server.answer_clock(me, self.operation, log, made)
+        log: &mut Log,
+    ) -> Result<(), Refusal> {
+        server.answer_clock(me, self.operation, log)
     }
 }
 
-#[derive(Drop)]
-pub struct WriteRequest {
-    pub outputs: ServerCount,
-    pub operation: u16,
-    pub object: ObjectNumber,
-    pub version: Version,
-    pub value: u64,
-}
-
 impl InputEvent for WriteRequest {
-    ghost happens = { λ e i I made log. write_step i e.operation e.outputs.count e.object.number e.version e.value I made log };
+    ghost happens = { λ e i I made log. write_step i e.operation e.outputs.number e.object.number e.version e.value I made log };
 
     fn happen(
         self,
         me: InputNumber,
         server: &mut InputServer,
-        log: &mut [Message],
-        made: usize,
-    ) -> Result<usize, Refusal> {
-        server.take_write(
-            me,
-            self.outputs,
-            self.operation,
-            self.object,
-            self.version,
-            self.value,
-            log,
-            made,
-        )
+        log: &mut Log,
+    ) -> Result<(), Refusal> {
+        server.take_write(me, &self, log)
     }
-}
-
-#[derive(Drop)]
-pub struct RenewalRequest {
-    pub output: OutputNumber,
-    pub parts: Parts,
-    pub object: ObjectNumber,
-    pub stamp: Time,
-    // the length of the leases that the server grants
-    pub lease: LeaseLength,
 }
 
 impl InputEvent for RenewalRequest {
@@ -100,19 +63,9 @@ impl InputEvent for RenewalRequest {
         self,
         me: InputNumber,
         server: &mut InputServer,
-        log: &mut [Message],
-        made: usize,
-    ) -> Result<usize, Refusal> {
-        server.answer_renewal(
-            me,
-            self.output,
-            self.parts,
-            self.object,
-            self.stamp,
-            self.lease,
-            log,
-            made,
-        )
+        log: &mut Log,
+    ) -> Result<(), Refusal> {
+        server.answer_renewal(me, &self, log)
     }
 }
 
@@ -130,11 +83,10 @@ impl InputEvent for Acknowledgement {
         self,
         me: InputNumber,
         server: &mut InputServer,
-        log: &mut [Message],
-        made: usize,
-    ) -> Result<usize, Refusal> {
-        server.take_acknowledgement(self.output, self.list);
-        Ok(made)
+        log: &mut Log,
+    ) -> Result<(), Refusal> {
+        server.take_acknowledgement(self.output, self.list.as_slice());
+        Ok(())
     }
 }
 
@@ -151,10 +103,8 @@ impl InputEvent for InputTick {
         self,
         me: InputNumber,
         server: &mut InputServer,
-        log: &mut [Message],
-        made: usize,
-    ) -> Result<usize, Refusal> {
-        server.tick(self.increment)?;
-        Ok(made)
+        log: &mut Log,
+    ) -> Result<(), Refusal> {
+        server.tick(self.increment)
     }
 }

@@ -1,20 +1,19 @@
 // What can happen to an output server: one of the three kinds of message that it is sent, or that
 // time passes.
-ghost use Rattle.std.specs.Prelude.{◌≡◌, ℕ, List};
+ghost use Rattle.std.specs.Prelude.{◌≡◌, ℕ, false, List, is_ok};
 ghost use Rattle.output_server.specs.Steps.{read_step, answer_step, invalidation_step};
 ghost use Rattle.output_server.specs.Views.{output_of};
 ghost use Rattle.rules.specs.declared.message.Message.{Message as AnyMessage};
 ghost use Rattle.rules.specs.Output.{Output};
-ghost use Rattle.rules.specs.Steps.{Step, step_says};
+ghost use Rattle.rules.specs.Steps.{Step, step};
 ghost use Rattle.servers.specs.Events.{output_tick};
 
 use numbers::{Drift, InputNumber, ObjectNumber, OutputNumber, Version};
 use output_server::{OutputServer, Renewal};
 use quorum::{QuorumSystem, Refusal};
-use rules::Message;
+use rules::Log;
 
-// Something that happens to the output server with the number `me`. It may log messages, after the
-// `made` ones that there are, and says how many are made then.
+// Something that happens to the output server with the number `me`. It may log messages.
 pub trait OutputEvent {
     // the number of the server, the server, how many messages are made, the log
     ghost happens: { Self → ℕ → Output → ℕ → List AnyMessage → Step Output };
@@ -23,12 +22,11 @@ pub trait OutputEvent {
         self,
         me: OutputNumber,
         server: &mut OutputServer,
-        log: &mut [Message],
-        made: usize,
-    ) -> Result<usize, Refusal>
-        ensures says { step_says result ≡ (happens self me.number (output_of server.old) made log.old).said }
-        ensures server { output_of server.new ≡ (happens self me.number (output_of server.old) made log.old).server }
-        ensures log { log.new ≡ (happens self me.number (output_of server.old) made log.old).log };
+        log: &mut Log,
+    ) -> Result<(), Refusal>
+        ensures does { happens self me.number (output_of server.old) log.old.made log.old.messages.now ≡ step result (output_of server.new) log.new }
+        ensures same { is_ok result ≡ false → (server.new ≡ server.old) × (log.new ≡ log.old) }
+        ensures loan { log.new.messages.ghost_name ≡ log.old.messages.ghost_name };
 }
 
 #[derive(Drop)]
@@ -45,10 +43,9 @@ impl<'a, I: QuorumSystem> OutputEvent for ReadRequest<'a, I> {
         self,
         me: OutputNumber,
         server: &mut OutputServer,
-        log: &mut [Message],
-        made: usize,
-    ) -> Result<usize, Refusal> {
-        server.answer_read(me, self.inputs, self.operation, self.object, log, made)
+        log: &mut Log,
+    ) -> Result<(), Refusal> {
+        server.answer_read(me, self.inputs, self.operation, self.object, log)
     }
 }
 
@@ -66,10 +63,9 @@ impl OutputEvent for RenewalAnswer {
         self,
         me: OutputNumber,
         server: &mut OutputServer,
-        log: &mut [Message],
-        made: usize,
-    ) -> Result<usize, Refusal> {
-        server.take_renewal(me, self.input, &self.renewal, self.drift, log, made)
+        log: &mut Log,
+    ) -> Result<(), Refusal> {
+        server.take_renewal(me, self.input, &self.renewal, self.drift, log)
     }
 }
 
@@ -87,10 +83,9 @@ impl OutputEvent for Invalidation {
         self,
         me: OutputNumber,
         server: &mut OutputServer,
-        log: &mut [Message],
-        made: usize,
-    ) -> Result<usize, Refusal> {
-        server.take_invalidation(me, self.input, self.object, self.version, log, made)
+        log: &mut Log,
+    ) -> Result<(), Refusal> {
+        server.take_invalidation(me, self.input, self.object, self.version, log)
     }
 }
 
@@ -107,10 +102,8 @@ impl OutputEvent for OutputTick {
         self,
         me: OutputNumber,
         server: &mut OutputServer,
-        log: &mut [Message],
-        made: usize,
-    ) -> Result<usize, Refusal> {
-        server.tick(self.increment)?;
-        Ok(made)
+        log: &mut Log,
+    ) -> Result<(), Refusal> {
+        server.tick(self.increment)
     }
 }

@@ -16,14 +16,16 @@ impl InputServers {
         ensures { inputs_of result ≡ first_inputs clocks.now }
     {
         InputServers {
-            input0: InputServer::new(start_clock(clocks, 0)),
-            input1: InputServer::new(start_clock(clocks, 1)),
-            input2: InputServer::new(start_clock(clocks, 2)),
-            input3: InputServer::new(start_clock(clocks, 3)),
-            input4: InputServer::new(start_clock(clocks, 4)),
-            input5: InputServer::new(start_clock(clocks, 5)),
-            input6: InputServer::new(start_clock(clocks, 6)),
-            input7: InputServer::new(start_clock(clocks, 7)),
+            servers: [
+                InputServer::new(start_clock(clocks, 0)),
+                InputServer::new(start_clock(clocks, 1)),
+                InputServer::new(start_clock(clocks, 2)),
+                InputServer::new(start_clock(clocks, 3)),
+                InputServer::new(start_clock(clocks, 4)),
+                InputServer::new(start_clock(clocks, 5)),
+                InputServer::new(start_clock(clocks, 6)),
+                InputServer::new(start_clock(clocks, 7)),
+            ],
         }
     }
 }
@@ -62,17 +64,5 @@ fn start_clock(clocks: &[Time], place: usize) -> Moment
 fn shown_as(time: Time) -> Moment
     ensures { record { 0 = result.micros } ≡ shown_as time }
 {
-    match Moment::new(time) {
-        Some(moment) => moment,
-        None => first_moment(),
-    }
-}
-
-fn first_moment() -> Moment
-    ensures { result.micros ≡ 0 }
-{
-    match Moment::new(Time::ZERO) {
-        Some(moment) => moment,
-        None => unreachable(),
-    }
+    Moment::try_from(time).unwrap_or(Moment::ZERO)
 }

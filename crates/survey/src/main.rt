@@ -7,31 +7,12 @@ mod losses;
 mod tests;
 mod text;
 
+use anyhow::Result;
 use losses::{Family, finds_after, smallest_set};
-use quorum::{Majority, QuorumSystem, ReadOneWriteAll, Refusal};
-use std::io;
+use quorum::{Majority, QuorumSystem, ReadOneWriteAll};
 use text::Servers;
 
-// Why a survey stops before its end.
-#[derive(Debug, Drop)]
-enum Stop {
-    Refused(Refusal),
-    Output(io::Error),
-}
-
-impl From<Refusal> for Stop {
-    fn from(refusal: Refusal) -> Stop {
-        Stop::Refused(refusal)
-    }
-}
-
-impl From<io::Error> for Stop {
-    fn from(error: io::Error) -> Stop {
-        Stop::Output(error)
-    }
-}
-
-fn survey<Q: QuorumSystem>(rt: &impl Print, servers: &str, system: &Q) -> Result<(), Stop> {
+fn survey<Q: QuorumSystem>(rt: &impl Print, servers: &str, system: &Q) -> Result<()> {
     println!(rt; "  {servers}")?;
     for lost in 0..=system.count() {
         let reads = finds_after(system, Family::Read, lost)?;
@@ -45,7 +26,7 @@ fn survey<Q: QuorumSystem>(rt: &impl Print, servers: &str, system: &Q) -> Result
     Ok(())
 }
 
-fn layout(rt: &impl Print, inputs: u8, outputs: u8) -> Result<(), Stop> {
+fn layout(rt: &impl Print, inputs: u8, outputs: u8) -> Result<()> {
     println!(rt)?;
     println!(rt; "Inputs: {inputs}, by majority. Outputs: {outputs}, by read-one write-all.")?;
     survey(rt, "inputs", &Majority::new(inputs)?)?;
@@ -59,7 +40,7 @@ For each number of lost servers: whether those left hold such a set,
   sometimes: for some losses and not for others;
   never: whichever servers are lost, those left are not enough.";
 
-fn main(rt: HostRuntime) -> Result<(), Stop> {
+fn main(rt: HostRuntime) -> Result<()> {
     println!(rt; "{LEGEND}")?;
     for (inputs, outputs) in [(5, 3), (4, 1), (8, 8)] {
         layout(&rt, inputs, outputs)?;

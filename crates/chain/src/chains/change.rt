@@ -1,6 +1,6 @@
-ghost use Rattle.std.specs.Prelude.{◌≡◌, ◌<◌, ◌≤◌, true, false, [], length, replicate, nat_le, slice_set};
+ghost use Rattle.std.specs.Prelude.{◌≡◌, ◌<◌, ◌≤◌, true, false, [], length, replicate, slice_set};
 ghost use Rattle.rules.specs.Input.{queued, freed};
-ghost use Rattle.chain.specs.Records.{linked_records, linked_heads, next_free};
+ghost use Rattle.chain.specs.Records.{linked_records, linked_heads};
 ghost use Rattle.chain.specs.Waiting.{waiting_of, waiting_for, has_free, Found, Queues};
 
 use crate::chains::walk::Place;
@@ -9,24 +9,7 @@ use crate::queued::Queued;
 use crate::record::{END, RECORDS, Record};
 use numbers::{OutputNumber, Version};
 use rules::Pair;
-
-// Whether the version that waits need not wait any more, once that version was acknowledged.
-fn is_covered(waiting: Version, acknowledged: Version) -> bool
-    ensures { result ≡ nat_le waiting.0 acknowledged.0 }
-{
-    !waiting.is_above(acknowledged)
-}
-
-// The number of the record after that one at the start, when all of them are free, in rising order.
-fn next_free(number: u8) -> u8
-    ensures { result ≡ next_free number }
-{
-    if (number as usize) < RECORDS {
-        number + 1
-    } else {
-        END
-    }
-}
+use std::array;
 
 // Puts `next` behind `before` or, where that is END, at the head of the output server's chain.
 fn link(
@@ -41,32 +24,26 @@ fn link(
     ensures tops { heads.new ≡ linked_heads heads.old output.number before next }
 {
     if before == END {
-        heads[output.get() as usize] = next;
+        heads[output.index()] = next;
     } else {
         records[before as usize - 1].next = next;
     }
 }
 
-// The heads of chains that have no record.
-fn no_heads() -> [u8; OUTPUTS]
-    ensures { result ≡ replicate 8 0 }
-{
-    [END; OUTPUTS]
-}
-
 impl Chains {
-    // Nothing waits, and every record is free.
+    // Nothing waits, and every record is free: the last one first, and each leads to the one below
+    // it.
     pub fn new() -> Chains
         ensures { waiting_of result ≡ replicate 8 [] }
     {
-        let mut records = [Record::UNUSED; RECORDS];
-        for i in 0..RECORDS {
-            records[i].next = next_free(i as u8 + 1);
-        }
         Chains {
-            records,
-            heads: no_heads(),
-            free: 1,
+            records: array::from_fn(|i| Record {
+                version: Version::NONE,
+                object: 0,
+                next: i as u8,
+            }),
+            heads: [END; OUTPUTS],
+            free: RECORDS as u8,
         }
     }
 
@@ -97,8 +74,9 @@ impl Chains {
         ensures after { waiting_of self.new ≡ slice_set (waiting_of self.old) output.number (queued pair (waiting_for self.old output.number)) }
     {
         let spare = self.free;
-        self.free = self.records[spare as usize - 1].next;
-        self.records[spare as usize - 1] = Record {
+        let record = &mut self.records[spare as usize - 1];
+        self.free = record.next;
+        *record = Record {
             version: pair.version,
             object: pair.object,
             next: END,
@@ -114,12 +92,13 @@ impl Chains {
 
     // The records of the chain become free. None was free before, so that the chain as it stands is
     // the chain of the free ones.
+    #[tactic(auto, using(crate::proofs::Meanings::released))]
     fn release(&mut self, output: OutputNumber)
         requires { self.old.free ≡ 0 }
         ensures full { has_free (waiting_of self.old) ≡ false }
         ensures after { waiting_of self.new ≡ slice_set (waiting_of self.old) output.number [] }
     {
-        let number = output.get() as usize;
+        let number = output.index();
         self.free = self.heads[number];
         self.heads[number] = END;
     }
@@ -133,8 +112,8 @@ impl Chains {
         if place.here == END {
             return;
         }
-        let record = self.record(place.here);
-        if !is_covered(record.version, version) {
+        let record = self.records[place.here as usize - 1];
+        if record.version > version {
             return;
         }
         link(

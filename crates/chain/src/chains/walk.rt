@@ -1,16 +1,17 @@
-ghost use Rattle.std.specs.Prelude.{◌≡◌, ◌<◌, ◌∷◌, length, take, nat_lt, slice_index};
-ghost use Rattle.numbers.specs.Numbers.{shown};
+ghost use Rattle.std.specs.Prelude.{◌≡◌, ◌≤◌, length, take, slice_index};
+ghost use Rattle.std.specs.Iterator.{YieldsFirst, item_count};
+ghost use Rattle.numbers.specs.Numbers.{records, shown};
 ghost use Rattle.rules.specs.Lists.{pairs};
-ghost use Rattle.chain.specs.Records.{at, entry, line, On};
+ghost use Rattle.chain.specs.Records.{line, On};
 ghost use Rattle.chain.specs.Waiting.{pairs_along, waiting_for, Found};
 
 use crate::chains::Chains;
-use crate::record::{END, Record};
+use crate::record::{END, Entry, RECORDS, Record};
 use numbers::OutputNumber;
-use rules::Pairs;
+use rules::{Pair, Pairs};
 
 // The most pairs that a list shows.
-const SHOWN: u8 = 8;
+const SHOWN: usize = 8;
 
 // A place in a chain: the number of the record there, or END behind the last one, and the number of
 // the record before it, or END at the first one.
@@ -20,31 +21,53 @@ pub(super) struct Place {
     pub(super) here: u8,
 }
 
-// Whether a list of so many pairs has room for one more.
-fn has_room(count: u8) -> bool
-    ensures { result ≡ nat_lt count shown }
-{
-    count < SHOWN
+// The records of one chain, in order.
+#[derive(Drop)]
+struct Waiting<'a> {
+    records: &'a [Record; RECORDS],
+    // the number of the record that comes next
+    here: u8,
+    // the chain ends
+    ghost ends: { ∥ On records.now here ∥₁ },
+}
+
+impl Iterator for Waiting<'_> {
+    type Item = Entry;
+
+    ghost next_gives = { YieldsFirst (λ s. line s.records.now s.here) };
+
+    ghost remaining = { item_count (λ s. line s.records.now s.here) };
+
+    #[tactic(auto, using(crate::proofs::Lines::on_none, crate::proofs::Lines::on_more))]
+    fn next(&mut self) -> Option<Entry> {
+        if self.here == END {
+            return None;
+        }
+        let slot = self.here;
+        let record = self.records[slot as usize - 1];
+        self.here = record.next;
+        Some(Entry {
+            slot,
+            pair: Pair {
+                object: record.object,
+                version: record.version,
+            },
+        })
+    }
 }
 
 impl Chains {
-    // The number of the first record of the output server's chain.
-    fn head(&self, output: OutputNumber) -> u8
-        ensures is { result ≡ slice_index self.now.heads output.number }
-        ensures on { On self.now.records result }
-        ensures waits { waiting_for self.now output.number ≡ pairs_along (line self.now.records result) }
+    // What waits for the output server.
+    #[tactic(auto, using(crate::proofs::Lines::on_start, crate::proofs::Lines::length_line, crate::proofs::Meanings::waiting_at))]
+    fn waiting(&self, output: OutputNumber) -> Waiting<'_>
+        ensures is { line result.records.now result.here ≡ line self.now.records (slice_index self.now.heads output.number) }
+        ensures short { length (line result.records.now result.here) ≤ records }
+        ensures waits { waiting_for self.now output.number ≡ pairs_along (line result.records.now result.here) }
     {
-        self.heads[output.get() as usize]
-    }
-
-    // The record of that number.
-    pub(super) fn record(&self, number: u8) -> Record
-        requires { (On self.now.records number) × (0 < number) }
-        ensures is { result ≡ at self.now.records number }
-        ensures on { On self.now.records result.next }
-        ensures rest { line self.now.records number ≡ entry self.now.records number ∷ line self.now.records result.next }
-    {
-        self.records[number as usize - 1]
+        Waiting {
+            records: &self.records,
+            here: self.heads[output.index()],
+        }
     }
 
     // The place of the object's record in the chain, or the place behind the last record if the
@@ -53,29 +76,23 @@ impl Chains {
         ensures { Found self.now output.number object result }
     {
         let mut before = END;
-        let mut here = self.head(output);
-        while here != END {
-            let record = self.record(here);
-            if record.names(object) {
-                break;
+        for entry in self.waiting(output) {
+            if entry.pair.object == object {
+                return Place {
+                    before,
+                    here: entry.slot,
+                };
             }
-            before = here;
-            here = record.next;
+            before = entry.slot;
         }
-        Place { before, here }
+        Place { before, here: END }
     }
 
     // How many invalidations wait for the output server.
     pub fn len(&self, output: OutputNumber) -> u8
         ensures { result ≡ length (waiting_for self.now output.number) }
     {
-        let mut waiting = 0;
-        let mut here = self.head(output);
-        while here != END {
-            waiting += 1;
-            here = self.record(here).next;
-        }
-        waiting
+        self.waiting(output).count() as u8
     }
 
     // The first invalidations that wait for the output server, as many as a list shows.
@@ -83,12 +100,9 @@ impl Chains {
         ensures { result ≡ pairs (take shown (waiting_for self.now output.number)) }
     {
         let mut list = Pairs::empty();
-        let mut here = self.head(output);
-        while here != END && has_room(list.count) {
-            let record = self.record(here);
-            list.items[list.count as usize] = record.pair();
+        for entry in self.waiting(output).take(SHOWN) {
+            list.items[list.count as usize] = entry.pair;
             list.count += 1;
-            here = record.next;
         }
         list
     }

@@ -6,14 +6,14 @@ use Rattle.field.proofs.hearing.hear.Goals as goal
 
 pub hear_on-after-requires : goal.hear_on-after-requires
 hear_on-after-requires g c =
-    subst (Accepts (g.I.QuorumSystem.meaning c.args.inputs.now) (g.O.QuorumSystem.meaning c.args.outputs.now) c.args.message.now)
+    subst (Accepts (g.I.QuorumSystem.meaning c.args.systems.now.inputs) (g.O.QuorumSystem.meaning c.args.systems.now.outputs) c.args.message.now)
     (sym (ap operation_of c.replace-before.ensures.value ∙ place_read c.args.table.now c.args.operation _ c.requires.begun.0 c.requires.begun.1))
     c.requires.accepts
 
 pub returns : goal.returns
 returns g c =
-    let i = g.I.QuorumSystem.meaning c.args.inputs.now in
-    let o = g.O.QuorumSystem.meaning c.args.outputs.now in
+    let i = g.I.QuorumSystem.meaning c.args.systems.now.inputs in
+    let o = g.O.QuorumSystem.meaning c.args.systems.now.outputs in
     let was = ap operation_of c.replace-before.ensures.value ∙ place_read c.args.table.now c.args.operation _ c.requires.begun.0 c.requires.begun.1 in
     let heard = c.hear_on-after.ensures ∙ ap (heard_at i o c.args.message.now) was in
     record {

@@ -5,5 +5,5 @@ use Rattle.field.proofs.hearing.read_on.Goals as goal
 
 pub unreachable-requires : goal.unreachable-requires
 unreachable-requires g c =
-    reads_refuses_not (g.I.QuorumSystem.meaning c.args.inputs.now) (g.O.QuorumSystem.meaning c.args.outputs.now) c.args.message.now
+    reads_refuses_not (g.I.QuorumSystem.meaning c.args.systems.now.inputs) (g.O.QuorumSystem.meaning c.args.systems.now.outputs) c.args.message.now
     (reading_of c.args.read) (reading_of c.in-Err.field-0.1) (number_of c.in-Err.field-0.0) c.requires c.in-Err.ensures.does

@@ -1,29 +1,29 @@
-use Rattle.std.proofs.Common.{sym, ap, ◌∙◌, subst, arith}
-use borrow.Author.Tests.{eqb-false}
-use Rattle.chain.specs.Records.{Stands}
-use Rattle.chain.proofs.Lines.{stands_start, stands_more}
-use Rattle.chain.proofs.Meanings.{not_named}
+use Rattle.std.proofs.Common.{◌∷◌, [], ◌++◌, refl, inl, inr, sym, ap, ◌∙◌, append_assoc}
+use Rattle.chain.specs.Records.{naming}
+use Rattle.chain.proofs.Lines.{naming_more}
+use Rattle.chain.proofs.Meanings.{found_at}
 use Rattle.chain.proofs.chains.Chains.find.Goals as goal
 
-pub loop-here-init : goal.loop-here-init
-loop-here-init c = (c.head-here.ensures.on, stands_start _ _ _ c.head-here.ensures.on)
+pub loop-entry-init : goal.loop-entry-init
+unfolding naming
+loop-entry-init c = record { whole = cc; last = inl (refl, refl); none = refl }
 
-pub loop-here-preserved : goal.loop-here-preserved
-loop-here-preserved c =
-    let is = c.record-record.ensures.is in (
-      c.record-record.ensures.on,
-      subst (λ r. Stands c.args.self.now.records c.head-here.result c.args.object c.loop-here.here r.next) (sym is)
-          (stands_more _ _ _ _ _ c.loop-here.invariant.1 (omega arith) (λ e. eqb-false c.record-record.result.object c.args.object (sym c.if-names.ensures) (ap (λ r. r.object) is ∙ e))),
-    )
-
-pub returns-after-loop-here : goal.returns-after-loop-here
-returns-after-loop-here c =
-    let s = c.args.self.now in
-    let st =
-    subst (λ h. Stands s.records h c.args.object c.loop-here.before c.loop-here.here) c.head-here.ensures.is c.loop-here.invariant.1 in
-    record {
-      stands = st;
-      on = c.loop-here.invariant.0;
-      own = λ p. absurd (omega arith);
-      absent = λ z. not_named s c.args.output _ _ _ st z;
+pub loop-entry-preserved : goal.loop-entry-preserved
+loop-entry-preserved c =
+    let i = c.loop-entry.invariant in record {
+      whole = i.whole ∙ ap (λ es. c.loop-entry.yielded ++ es) c.in-Some.ensures.steps ∙ sym (append_assoc c.loop-entry.yielded (c.in-Some.entry ∷ []) _);
+      last = inr (c.loop-entry.yielded, c.in-Some.entry, refl, refl);
+      none = naming_more _ _ _ i.none c.if-entry-object.false;
     }
+
+pub returns-then-entry-object : goal.returns-then-entry-object
+returns-then-entry-object c =
+    let i = c.loop-entry.invariant in
+    found_at c.args.self.now c.args.output.number c.args.output.inside c.args.object c.loop-entry.before c.loop-entry.yielded (c.in-Some.entry ∷ _) (i.whole ∙ ap (λ es. c.loop-entry.yielded ++ es) c.in-Some.ensures.steps)
+    i.last i.none (λ y zs e. let o = c.if-entry-object.true in cc)
+
+pub returns : goal.returns
+returns c =
+    let i = c.loop-entry.invariant in
+    found_at c.args.self.now c.args.output.number c.args.output.inside c.args.object c.loop-entry.before c.loop-entry.yielded [] (i.whole ∙ ap (λ es. c.loop-entry.yielded ++ es) c.in-None.ensures.steps.0)
+    i.last i.none (λ y zs e. cc)

@@ -1,9 +1,10 @@
-use Rattle.std.proofs.Common.{length}
-use Rattle.chain.specs.Records.{line, On, Stands}
+use Rattle.std.proofs.Common.{◌≡◌, ◌++◌, get_or}
+use Rattle.chain.specs.Records.{line, naming, Ends}
 use Rattle.chain.proofs.chains.Chains.find.Given as goal
 
-abbrev pub invariant-loop-here : goal.invariant-loop-here
-invariant-loop-here l = On l.self.records l.here × Stands l.self.records l.initial.here l.object l.before l.here
-
-abbrev pub decreases-loop-here : goal.decreases-loop-here
-decreases-loop-here l = length (line l.self.records l.here)
+abbrev pub invariant-loop-entry : goal.invariant-loop-entry
+invariant-loop-entry l = record {
+  whole : line l.self.records (get_or l.self.heads l.fn.output.number 0) ≡ l.yielded ++ line l.entry-iterator.records.now l.entry-iterator.here;
+  last : Ends l.yielded l.before;
+  none : naming l.object l.yielded ≡ 0;
+}

@@ -1,30 +1,31 @@
-use Rattle.std.proofs.Common.{◌≡◌, ◌<◌, ◌∷◌, take, drop, sym, ap, ◌∙◌, subst, arith}
-use Rattle.std.proofs.lemmas.Bool.{ltb-true}
-use Rattle.numbers.specs.Numbers.{shown}
-use Rattle.rules.specs.Lists.{pairs}
-use Rattle.chain.specs.Records.{at, pair_in, line}
-use Rattle.chain.specs.Waiting.{pairs_along}
-use Rattle.chain.proofs.Lines.{none_left}
-use Rattle.chain.proofs.Shows.{rest_more, shows_more, shows_all}
+use Rattle.std.proofs.Common.{◌≡◌, ◌+◌, zero-add, set, replicate, ◌++◌, ◌∷◌, [], List, length, refl, ap, ◌∙◌, arith, sym}
+use Rattle.std.proofs.lemmas.Iterator.{YieldsList-from_take}
+use Rattle.std.proofs.lemmas.Iterator.Consumers.{YieldsList-from_first, YieldsList-end}
+use Rattle.std.proofs.lemmas.List.{take-map, map-id, map-append, length-append}
+use Rattle.rules.specs.Lists.{no_pair, pairs}
+use Rattle.rules.specs.declared.pairs.Pair.{Pair}
+use Rattle.rules.specs.declared.pairs.Pairs.{Pairs}
+use Rattle.rules.proofs.Logging.{sets_append}
+use Rattle.chain.specs.declared.record.Entry.{Entry}
+use Rattle.chain.specs.Records.{line}
 use Rattle.chain.proofs.chains.Chains.first.Goals as goal
 
-pub loop-here-preserved : goal.loop-here-preserved
-loop-here-preserved c =
-    let rs = c.args.self.now.records in
-    let w = pairs_along (line rs c.head-here.result) in
-    let l = c.loop-here.list in
-    let i = c.loop-here.invariant in
-    let p : pair_in (at rs c.loop-here.here) ≡ c.pair.result = sym (c.pair.ensures ∙ ap pair_in c.record-record.ensures.is) in
-    let d : drop l.count w ≡ c.pair.result ∷ pairs_along (line rs c.record-record.result.next) =
-    sym i.3 ∙ ap pairs_along c.record-record.ensures.rest
-    ∙ ap (λ q. q ∷ pairs_along (line rs c.record-record.result.next)) p in
-    let h : l.count < shown = ltb-true _ _ (sym c.if-has_room.ensures) in
-    (c.record-record.ensures.on, omega arith, shows_more w l i.2 c.pair.result _ d, rest_more w l i.2 c.pair.result _ d)
+-- one more pair is shown
+shows_more : (l : Pairs) (ps : List Pair) (p : Pair) → l ≡ pairs ps → record { count = l.count + 1; items = set l.items l.count p } ≡ pairs (ps ++ p ∷ [])
+shows_more l ps p e =
+    let n : length ps + 1 ≡ length (ps ++ p ∷ []) = sym (length-append ps (p ∷ [])) in
+    let i = simp zero-add at (sets_append ps (p ∷ []) (replicate 8 no_pair) 0) in
+    ap (λ m. record { count = m.count + 1; items = set m.items m.count p }) e ∙ (λ k. record { count = n k; items = i k })
 
-pub returns-after-loop-here : goal.returns-after-loop-here
-returns-after-loop-here c =
-    let rs = c.args.self.now.records in
-    let i = c.loop-here.invariant in
-    let n = ap pairs_along (none_left rs _ _ i.0 c.loop-here-test.false) in
-    subst (λ w. c.loop-here.list ≡ pairs (take shown w)) (sym c.head-here.ensures.waits)
-    (shows_all (pairs_along (line rs c.head-here.result)) c.loop-here.list i.2 (sym i.3 ∙ n) i.1)
+pub loop-entry-preserved : goal.loop-entry-preserved
+loop-entry-preserved c = record {
+  shows = shows_more _ _ _ c.loop-entry.invariant.shows ∙ ap pairs (sym (map-append _ c.loop-entry.yielded (c.in-Some.entry ∷ [])));
+  left = omega (arith, length-append c.loop-entry.yielded (c.in-Some.entry ∷ []), c.in-Some.ensures.steps.1);
+}
+
+pub returns : goal.returns
+returns c =
+    let s = c.into_iter-entry-iterator.result in
+    let t = YieldsList-end (YieldsList-from_take {s = s} 8 (YieldsList-from_first (λ x. x) (λ s. line s.records.now s.here) {s = s.iter} _ refl) cc) c.loop-entry.yielded c.loop-entry.entry-iterator c.loop-entry.yielded_by _ c.next.new.self c.in-None.is c.next.ensures.steps in
+    let m = take-map (λ (x : Entry). x.pair) 8 (line s.iter.records.now s.iter.here) in
+    let i = map-id c.loop-entry.yielded in cc

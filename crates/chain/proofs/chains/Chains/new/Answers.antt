@@ -1,11 +1,14 @@
-use Rattle.std.proofs.Common.{sym, ap, ◌∙◌, subst, arith}
-use Rattle.chain.specs.Records.{Sound}
-use Rattle.chain.specs.Waiting.{waiting_in}
-use Rattle.chain.proofs.Fresh.{fresh_sound, fresh_waiting}
+use Rattle.std.proofs.Common.{rules}
+use Rattle.chain.specs.Records.{blank}
+use Rattle.chain.proofs.Fresh.{fresh_chains}
 use Rattle.chain.proofs.chains.Chains.new.Goals as goal
 
 pub invariant_of-result : goal.invariant_of-result
-invariant_of-result c = record { sound = subst (λ hs. Sound c.loop-i.records hs 1) (sym c.no_heads.ensures) (fresh_sound _ c.loop-i.invariant.0 (λ k h. c.loop-i.invariant.1 k (omega arith))) }
+invariant_of-result c =
+    let made = c.from_fn.ensures.items in
+    record { sound = (fresh_chains c.from_fn.result made.long (λ k h. let m = made.at k blank h in search rules)).0 }
 
 pub returns : goal.returns
-returns c = ap (waiting_in c.loop-i.records) c.no_heads.ensures ∙ fresh_waiting _ c.loop-i.invariant.0 (λ k h. c.loop-i.invariant.1 k (omega arith))
+returns c =
+    let made = c.from_fn.ensures.items in
+    (fresh_chains c.from_fn.result made.long (λ k h. let m = made.at k blank h in search rules)).1

@@ -10,7 +10,7 @@ pub invariant_of-self : goal.invariant_of-self
 unfolding outcome_of
 invariant_of-self g c = record {
   sound =
-      sound_after (g.I.QuorumSystem.meaning c.args.inputs.now) (g.O.QuorumSystem.meaning c.args.outputs.now) (g.met.I.QuorumSystem.lawful c.args.inputs.now) (g.met.O.QuorumSystem.lawful c.args.outputs.now)
+      sound_after (g.I.QuorumSystem.meaning c.args.systems.now.inputs) (g.O.QuorumSystem.meaning c.args.systems.now.outputs) (g.met.I.QuorumSystem.lawful c.args.systems.now.inputs) (g.met.O.QuorumSystem.lawful c.args.systems.now.outputs)
       (to_read c.args.object) c.args.self.now.interior c.begin_read.new.self c.args.log.now c.begin_read.new.log c.args.table.now c.begin_read.new.table
       (beginning_says c.begin_read.result) c.args.self.now.sound c.begin_read.ensures.does;
 }
@@ -20,7 +20,7 @@ unfolding outcome_of
 returns g c = record {
   does = c.begin_read.ensures.does;
   same = λ e. let s = c.begin_read.ensures.same e in (same_field _ _ s.0, s.1, s.2);
-  guaranteed = guaranteed (g.I.QuorumSystem.meaning c.args.inputs.now) (g.O.QuorumSystem.meaning c.args.outputs.now) (g.met.I.QuorumSystem.lawful c.args.inputs.now) (g.met.O.QuorumSystem.lawful c.args.outputs.now)
+  guaranteed = guaranteed (g.I.QuorumSystem.meaning c.args.systems.now.inputs) (g.O.QuorumSystem.meaning c.args.systems.now.outputs) (g.met.I.QuorumSystem.lawful c.args.systems.now.inputs) (g.met.O.QuorumSystem.lawful c.args.systems.now.outputs)
       (to_read c.args.object) (state_of c.args.self.now.interior c.args.log.now c.args.table.now) (state_of c.begin_read.new.self c.begin_read.new.log c.begin_read.new.table)
       (beginning_says c.begin_read.result) c.begin_read.ensures.does;
 }

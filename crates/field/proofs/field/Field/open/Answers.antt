@@ -10,7 +10,7 @@ pub invariant_of-self : goal.invariant_of-self
 unfolding outcome_of
 invariant_of-self g c = record {
   sound =
-      sound_after (g.I.QuorumSystem.meaning c.args.inputs.now) (g.O.QuorumSystem.meaning c.args.outputs.now) (g.met.I.QuorumSystem.lawful c.args.inputs.now) (g.met.O.QuorumSystem.lawful c.args.outputs.now)
+      sound_after (g.I.QuorumSystem.meaning c.args.systems.now.inputs) (g.O.QuorumSystem.meaning c.args.systems.now.outputs) (g.met.I.QuorumSystem.lawful c.args.systems.now.inputs) (g.met.O.QuorumSystem.lawful c.args.systems.now.outputs)
       (to_open c.args.opening.objects c.args.opening.lease c.args.opening.drift c.args.clocks.now) c.args.self.now.interior c.open.new.self c.args.log.now c.args.log.now c.args.table.now c.args.table.now
       (acceptance c.open.result) c.args.self.now.sound c.open.ensures.does;
 }
@@ -20,7 +20,7 @@ unfolding outcome_of
 returns g c = record {
   does = c.open.ensures.does;
   same = λ e. same_field _ _ (c.open.ensures.same e);
-  guaranteed = guaranteed (g.I.QuorumSystem.meaning c.args.inputs.now) (g.O.QuorumSystem.meaning c.args.outputs.now) (g.met.I.QuorumSystem.lawful c.args.inputs.now) (g.met.O.QuorumSystem.lawful c.args.outputs.now)
+  guaranteed = guaranteed (g.I.QuorumSystem.meaning c.args.systems.now.inputs) (g.O.QuorumSystem.meaning c.args.systems.now.outputs) (g.met.I.QuorumSystem.lawful c.args.systems.now.inputs) (g.met.O.QuorumSystem.lawful c.args.systems.now.outputs)
       (to_open c.args.opening.objects c.args.opening.lease c.args.opening.drift c.args.clocks.now) (state_of c.args.self.now.interior c.args.log.now c.args.table.now) (state_of c.open.new.self c.args.log.now c.args.table.now)
       (acceptance c.open.result) c.open.ensures.does;
 }

@@ -8,6 +8,6 @@ returns g c =
     c.check_delivery.ensures
     ∙ ap (λ (b : Bool). delivering_refusal c.args.self.now.is_open b c.args.number c.args.self.now.made c.has_room-room.result)
     (c.is_as_opened-as_opened.ensures
-    ∙ lent_as (g.I.QuorumSystem.meaning c.args.inputs.now) (g.O.QuorumSystem.meaning c.args.outputs.now) c.args.self.now c.args.log.now c.args.table.now _ _
-    c.count.ensures c.count-2.ensures)
+    ∙ lent_as (g.I.QuorumSystem.meaning c.args.systems.now.inputs) (g.O.QuorumSystem.meaning c.args.systems.now.outputs) c.args.self.now c.args.log.now c.args.table.now _ _
+    c.count-n.ensures c.count-m.ensures)
     ∙ ap (delivering_refusal c.args.self.now.is_open _ c.args.number c.args.self.now.made) c.has_room-room.ensures

@@ -6,11 +6,11 @@ use Rattle.field.proofs.interior.Interior.check_object.Goals as goal
 
 pub returns : goal.returns
 returns g c =
-    let i = g.I.QuorumSystem.meaning c.args.inputs.now in
-    let o = g.O.QuorumSystem.meaning c.args.outputs.now in
+    let i = g.I.QuorumSystem.meaning c.args.systems.now.inputs in
+    let o = g.O.QuorumSystem.meaning c.args.systems.now.outputs in
     let f = c.args.self.now in
     c.check_beginning.ensures
     ∙ ap (λ (b : Bool). beginning_refusal f.is_open b c.args.object f.objects (length c.args.table.now) f.begun c.has_room-room.result)
-    (c.is_as_opened-as_opened.ensures ∙ lent_as i o f c.args.log.now c.args.table.now _ _ c.count.ensures c.count-2.ensures)
+    (c.is_as_opened-as_opened.ensures ∙ lent_as i o f c.args.log.now c.args.table.now _ _ c.count-n.ensures c.count-m.ensures)
     ∙ ap (beginning_refusal f.is_open _ c.args.object f.objects (length c.args.table.now) f.begun) c.has_room-room.ensures
     ∙ checks_table i o c.args.object f c.args.log.now c.args.table.now _ _

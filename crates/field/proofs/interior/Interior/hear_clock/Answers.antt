@@ -8,14 +8,14 @@ use Rattle.field.proofs.interior.Interior.hear_clock.Goals as goal
 pub ask_place-after-requires : goal.ask_place-after-requires
 ask_place-after-requires g c = record {
   room = c.requires.room;
-  accepts = subst (Accepts (g.I.QuorumSystem.meaning c.args.inputs.now) (g.O.QuorumSystem.meaning c.args.outputs.now) (ClockAnswer c.args.input c.args.operation c.args.clock))
+  accepts = subst (Accepts (g.I.QuorumSystem.meaning c.args.systems.now.inputs) (g.O.QuorumSystem.meaning c.args.systems.now.outputs) (ClockAnswer c.args.input c.args.operation c.args.clock))
       (sym (ap operation_of c.replace-before.ensures.value ∙ place_read c.args.table.now c.args.operation _ c.requires.begun.0 c.requires.begun.1))
       c.requires.accepts;
 }
 
 pub returns : goal.returns
 returns g c =
-    clock_leaves (g.I.QuorumSystem.meaning c.args.inputs.now) (g.O.QuorumSystem.meaning c.args.outputs.now) c.args.input c.args.operation c.args.clock
+    clock_leaves (g.I.QuorumSystem.meaning c.args.systems.now.inputs) (g.O.QuorumSystem.meaning c.args.systems.now.outputs) c.args.input c.args.operation c.args.clock
     c.args.self.now c.ask_place-after.new.self c.args.log.now c.ask_place-after.new.log c.args.table.now _ c.replace-before.result c.ask_place-after.result
     (ap operation_of c.replace-before.ensures.value ∙ place_read c.args.table.now c.args.operation _ c.requires.begun.0 c.requires.begun.1)
     c.ask_place-after.ensures.place c.ask_place-after.ensures.sends

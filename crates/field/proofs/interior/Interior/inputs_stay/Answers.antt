@@ -18,5 +18,5 @@ loop-input-preserved c = λ log t.
 
 pub returns : goal.returns
 returns c = λ log t.
-    let e : c.loop-input.input ≡ c.args.self.now.input_count.count = omega (arith, c.loop-input-test.false, c.loop-input.auto, c.get-input-end.ensures) in
+    let e : c.loop-input.input ≡ c.args.self.now.input_count.number = omega (arith, c.loop-input-test.false, c.loop-input.auto, c.get-input-end.ensures) in
     c.loop-input.invariant log t ∙ ap (λ (n : ℕ). inputs_stay c.args.increments.now n (state_of c.args.self.now log t)) e

@@ -19,6 +19,6 @@ loop-number-preserved g c = (
 
 pub returns : goal.returns
 returns g c =
-    let e : c.loop-number.number ≡ c.args.count.count = omega (arith, c.loop-number-test.false, c.loop-number.auto, c.get-number-end.ensures) in
+    let e : c.loop-number.number ≡ c.args.count.number = omega (arith, c.loop-number-test.false, c.loop-number.auto, c.get-number-end.ensures) in
     λ t. c.loop-number.invariant.1 t
     ∙ ap (λ (n : ℕ). post (each n (λ i. g.R.Requests.message c.args.requests.now i ∷ [])) (state_of c.args.self.now c.args.log.now t)) e

@@ -8,7 +8,7 @@ pub returns-in_err-check_opening : goal.returns-in_err-check_opening
 returns-in_err-check_opening g c =
     let p = err_from_is_err_and c.from_residual.result c.from_residual.ensures.1 in
     rw (p.1, p.2) (record {
-      does = open_refuses (g.I.QuorumSystem.meaning c.args.inputs.now) (g.O.QuorumSystem.meaning c.args.outputs.now)
+      does = open_refuses (g.I.QuorumSystem.meaning c.args.systems.now.inputs) (g.O.QuorumSystem.meaning c.args.systems.now.outputs)
           c.args.opening.objects c.args.opening.lease c.args.opening.drift c.args.clocks.now
           c.args.self.now c.args.log.now c.args.table.now _ _ _
           c.count-n.ensures c.count-m.ensures c.in_err-check_opening.ensures;
@@ -22,7 +22,7 @@ start-requires g c =
 
 pub returns : goal.returns
 returns g c = record {
-  does = opens (g.I.QuorumSystem.meaning c.args.inputs.now) (g.O.QuorumSystem.meaning c.args.outputs.now)
+  does = opens (g.I.QuorumSystem.meaning c.args.systems.now.inputs) (g.O.QuorumSystem.meaning c.args.systems.now.outputs)
       c.args.opening.objects c.args.opening.lease c.args.opening.drift c.args.clocks.now
       c.args.self.now c.args.log.now c.args.table.now c.start.new.self c.count-n.result c.count-m.result
       c.count-n.ensures c.count-m.ensures c.in_ok-check_opening.ensures

@@ -10,7 +10,7 @@ loop-input-init c = λ log t. refl
 pub tick_input-requires : goal.tick_input-requires
 tick_input-requires c = record {
   inside = omega (arith, c.loop-input-test.true, c.get-input-end.ensures);
-  stays = λ log t. input_may_tick c.args.increments.now c.args.self.now.input_count.count c.loop-input.input (state_of c.args.self.now log t) _
+  stays = λ log t. input_may_tick c.args.increments.now c.args.self.now.input_count.number c.loop-input.input (state_of c.args.self.now log t) _
       (c.loop-input.invariant log t) (omega (arith, c.loop-input-test.true, c.get-input-end.ensures)) (c.requires.stay log t);
 }
 
@@ -20,5 +20,5 @@ loop-input-preserved c = λ log t.
 
 pub returns : goal.returns
 returns c = λ log t.
-    let e : c.loop-input.input ≡ c.args.self.now.input_count.count = omega (arith, c.loop-input-test.false, c.loop-input.auto, c.get-input-end.ensures) in
+    let e : c.loop-input.input ≡ c.args.self.now.input_count.number = omega (arith, c.loop-input-test.false, c.loop-input.auto, c.get-input-end.ensures) in
     c.loop-input.invariant log t ∙ ap (λ (n : ℕ). later_inputs c.args.increments.now n (state_of c.args.self.now log t)) e

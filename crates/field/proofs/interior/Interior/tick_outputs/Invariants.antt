@@ -6,4 +6,4 @@ use Rattle.field.specs.Views.{state_of}
 use Rattle.field.proofs.interior.Interior.tick_outputs.Given as goal
 
 abbrev pub invariant-loop-output : goal.invariant-loop-output
-invariant-loop-output l = (log : List Message) (t : List Operation) → state_of l.self log t ≡ later_outputs l.increments l.initial.self.input_count.count l.output (state_of l.initial.self log t)
+invariant-loop-output l = (log : List Message) (t : List Operation) → state_of l.self log t ≡ later_outputs l.increments l.initial.self.input_count.number l.output (state_of l.initial.self log t)

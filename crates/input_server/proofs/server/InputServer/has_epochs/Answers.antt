@@ -1,14 +1,14 @@
-use Rattle.std.proofs.Common.{ap, ◌∙◌}
-use Rattle.rules.proofs.Rising.{at_end}
-use Rattle.input_server.proofs.Waits.{epochs_more}
-use Rattle.input_server.specs.Epochs.{have_epochs}
+use Rattle.std.proofs.Common.{rules, tests, ℕ, ap, ◌∙◌, refl, arith}
+use Rattle.std.proofs.lemmas.Iterator.{YieldsList-from_range}
+use Rattle.std.proofs.lemmas.Iterator.Search.{all_from_yields_List}
+use Rattle.quorum.specs.Chains.{all_by_chain}
+use Rattle.quorum.specs.Sets.{all_below}
+use Rattle.input_server.specs.Epochs.{has_epoch}
 use Rattle.input_server.proofs.server.InputServer.has_epochs.Goals as goal
-
-pub loop-output-preserved : goal.loop-output-preserved
-loop-output-preserved c = epochs_more c.args.self.now.ledgers c.loop-output.output c.loop-output.has c.and_epoch_of-has.result c.loop-output.invariant c.and_epoch_of-has.ensures
 
 pub returns : goal.returns
 returns c =
-    c.loop-output.invariant
-    ∙ ap (have_epochs c.args.self.now.ledgers)
-    (at_end c.loop-output.output c.get-output-end.result c.args.outputs.count c.loop-output-test.false c.loop-output.auto.output-end c.get-output-end.ensures.is)
+    let test = has_epoch c.args.self.now.ledgers in
+    all_from_yields_List test _ _ _ c.all.ensures.ran (YieldsList-from_range 0 c.index.result c.index.result refl (omega arith)) (λ x b q k. search (rules, tests))
+    ∙ all_by_chain c.index.result test
+    ∙ ap (λ (n : ℕ). all_below n test) c.index.ensures.is

@@ -7,13 +7,13 @@ use Rattle.input_server.proofs.server.InputServer.queue.Goals as goal
 pub returns-in-Waits : goal.returns-in-Waits
 returns-in-Waits c =
     queues_waits c.args.object.number c.args.output.number (input_of c.args.self.now)
-    (record { object = c.get.result; version = (held (input_of c.args.self.now) c.get-2.result).version }) (waiting_of c.queue.new.self)
-    (waits_at (input_of c.args.self.now) c.args.object.number c.get.result c.get-2.result c.get.ensures.is c.get-2.ensures.is)
+    (record { object = c.get.result; version = (held (input_of c.args.self.now) c.index.result).version }) (waiting_of c.queue.new.self)
+    (waits_at (input_of c.args.self.now) c.args.object.number c.get.result c.index.result c.get.ensures.is c.index.ensures.is)
     c.requires.owes c.in-Waits.ensures.0 c.in-Waits.ensures.1
 
 pub returns-in-Freed : goal.returns-in-Freed
 returns-in-Freed c =
     queues_freed c.args.object.number c.args.output.number (input_of c.args.self.now) (input_of c.begin_epoch.new.self)
-    (record { object = c.get.result; version = (held (input_of c.args.self.now) c.get-2.result).version }) (waiting_of c.queue.new.self)
-    (waits_at (input_of c.args.self.now) c.args.object.number c.get.result c.get-2.result c.get.ensures.is c.get-2.ensures.is)
+    (record { object = c.get.result; version = (held (input_of c.args.self.now) c.index.result).version }) (waiting_of c.queue.new.self)
+    (waits_at (input_of c.args.self.now) c.args.object.number c.get.result c.index.result c.get.ensures.is c.index.ensures.is)
     c.requires.owes c.in-Freed.ensures.0 c.in-Freed.ensures.1 c.begin_epoch.ensures

@@ -10,7 +10,7 @@ queue_for-requires c =
     let so_far = queues_so_far c.args.object.number c.loop-number.number (input_of c.args.self.now) (input_of c.loop-number.self) c.loop-number.invariant.0 c.loop-number.invariant.1 in
     record {
       inside = omega (arith, c.loop-number-test.true, c.get-number-end.ensures.inside);
-      spare = epoch_left c.args.object.number c.args.outputs.count c.loop-number.number (input_of c.args.self.now) (input_of c.loop-number.self)
+      spare = epoch_left c.args.object.number c.args.outputs.number c.loop-number.number (input_of c.args.self.now) (input_of c.loop-number.self)
           (omega (arith, c.loop-number-test.true, c.get-number-end.ensures.is)) c.requires so_far;
     }
 
@@ -27,4 +27,4 @@ pub returns : goal.returns
 returns c =
     queues_so_far c.args.object.number c.loop-number.number (input_of c.args.self.now) (input_of c.loop-number.self) c.loop-number.invariant.0 c.loop-number.invariant.1
     ∙ ap (λ (n : ℕ). queues_all c.args.object.number n (input_of c.args.self.now))
-    (at_end c.loop-number.number c.get-number-end.result c.args.outputs.count c.loop-number-test.false c.loop-number.invariant.2 c.get-number-end.ensures.is)
+    (at_end c.loop-number.number c.get-number-end.result c.args.outputs.number c.loop-number-test.false c.loop-number.invariant.2 c.get-number-end.ensures.is)

@@ -1,10 +1,10 @@
-use Rattle.std.proofs.Common.{◌≡◌, take}
-use Rattle.rules.specs.Lists.{list_of}
+use Rattle.std.proofs.Common.{◌≡◌, [], drop}
 use Rattle.rules.specs.Input.{acknowledges_all}
 use Rattle.input_server.specs.Views.{input_of}
 use Rattle.input_server.proofs.server.InputServer.take_acknowledgement.Given as goal
 
-abbrev pub invariant-loop-place : goal.invariant-loop-place
-invariant-loop-place l =
-    (input_of l.self ≡ acknowledges_all l.output.number (take l.place (list_of l.list)) (input_of l.initial.self))
-    × (l.place ≡ 0 → l.self ≡ l.initial.self)
+-- what is left to acknowledge leads to where the whole list leads
+abbrev pub invariant-loop-pair : goal.invariant-loop-pair
+invariant-loop-pair l =
+    (acknowledges_all l.output.number (drop l.pair-index l.list) (input_of l.self) ≡ acknowledges_all l.output.number l.list (input_of l.initial.self))
+    × (l.list ≡ [] → l.self ≡ l.initial.self)

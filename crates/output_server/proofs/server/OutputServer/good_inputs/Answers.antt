@@ -1,17 +1,20 @@
-use Rattle.std.proofs.Common.{ℕ, ap, ◌∙◌}
+use Rattle.std.proofs.Common.{rules, tests, ℕ, ap, ◌∙◌, refl, arith}
+use Rattle.std.proofs.lemmas.Iterator.{YieldsList-from_range}
+use Rattle.std.proofs.lemmas.Iterator.Consumers.{YieldsList-at, YieldsList-from_filter, fold_from_yields_List}
+use Rattle.quorum.specs.declared.member_set.MemberSet.{MemberSet}
+use Rattle.quorum.specs.Chains.{with_member, set_by_chain}
 use Rattle.quorum.specs.Sets.{set_of}
-use Rattle.rules.proofs.Rising.{set_more, at_end}
 use Rattle.rules.specs.Output.{good}
 use Rattle.output_server.specs.Views.{output_of}
 use Rattle.output_server.proofs.server.OutputServer.good_inputs.Goals as goal
 
-pub loop-input-preserved : goal.loop-input-preserved
-loop-input-preserved c =
-    set_more (good (output_of c.args.self.now) c.args.object.number) c.loop-input.input c.loop-input.set.0 c.with_good-set.result.0
-    c.loop-input.invariant c.with_good-set.ensures
-
 pub returns : goal.returns
 returns c =
-    c.loop-input.invariant
-    ∙ ap (λ (n : ℕ). set_of n (good (output_of c.args.self.now) c.args.object.number))
-    (at_end c.loop-input.input c.get-input-end.result c.args.count.count c.loop-input-test.false c.loop-input.auto.input-end c.get-input-end.ensures.is)
+    let test = good (output_of c.args.self.now) c.args.object.number in
+    ap (λ (s : MemberSet). s.0)
+    (fold_from_yields_List _ with_member _ _ c.fold.ensures.ran
+    (YieldsList-from_filter _ test (YieldsList-at c.filter.ensures.source (YieldsList-from_range 0 c.get.result c.get.result refl (omega arith)))
+    c.filter.ensures.closure (λ x b q k. search (rules, tests)))
+    (λ a x b q k. search rules)
+    ∙ set_by_chain c.get.result test (omega (arith, c.get.ensures.inside)))
+    ∙ ap (λ (n : ℕ). set_of n test) c.get.ensures.is

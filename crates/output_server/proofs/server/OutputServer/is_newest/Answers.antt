@@ -1,18 +1,17 @@
-use Rattle.std.proofs.Common.{ℕ, Bool, ◌&&◌, leb, sym, ap, ◌∙◌, add-one}
-use Rattle.rules.proofs.Rising.{at_end}
-use Rattle.rules.specs.Output.{covers, copy_of, link, newest_of}
+use Rattle.std.proofs.Common.{rules, tests, ℕ, Bool, ap, ◌∙◌, refl, arith, nat_le}
+use Rattle.std.proofs.lemmas.Iterator.{YieldsList-from_range}
+use Rattle.std.proofs.lemmas.Iterator.Search.{all_from_yields_List}
+use Rattle.quorum.specs.Chains.{all_by_chain}
+use Rattle.quorum.specs.Sets.{all_below}
+use Rattle.rules.specs.Output.{copy_of, link, newest_of}
 use Rattle.output_server.specs.Views.{output_of}
 use Rattle.output_server.proofs.server.OutputServer.is_newest.Goals as goal
 
-pub loop-input-preserved : goal.loop-input-preserved
-loop-input-preserved c =
-    c.and_newest_of-newest.ensures
-    ∙ ap (λ (b : Bool). b && leb (copy_of (link (output_of c.args.self.now) c.loop-input.input) c.args.object.number).known.0
-    (newest_of (output_of c.args.self.now) c.args.object.number).version.0) c.loop-input.invariant
-    ∙ sym (ap (λ (n : ℕ). covers (output_of c.args.self.now) c.args.object.number n) (add-one c.loop-input.input))
-
 pub returns : goal.returns
 returns c =
-    c.loop-input.invariant
-    ∙ ap (λ (n : ℕ). covers (output_of c.args.self.now) c.args.object.number n)
-    (at_end c.loop-input.input c.get-input-end.result c.args.count.count c.loop-input-test.false c.loop-input.auto.input-end c.get-input-end.ensures.is)
+    let O = output_of c.args.self.now in
+    let o = c.args.object.number in
+    let test : ℕ → Bool = λ i. nat_le (copy_of (link O i) o).known.0 (newest_of O o).version.0 in
+    all_from_yields_List test _ _ _ c.all.ensures.ran (YieldsList-from_range 0 c.index-2.result c.index-2.result refl (omega arith)) (λ x b q k. search (rules, tests))
+    ∙ all_by_chain c.index-2.result test
+    ∙ ap (λ (n : ℕ). all_below n test) c.index-2.ensures.is

@@ -7,4 +7,4 @@ use Rattle.servers.proofs.outputs.OutputServers.get.Goals as goal
 pub returns : goal.returns
 returns c =
     let h : c.args.output.number < length c.args.self.now.servers = search rules in
-    picked output_of c.args.self.now.servers c.args.output.number c.place.result c.index-self-place.result no_output c.place.ensures.is h
+    picked output_of c.args.self.now.servers c.args.output.number c.index.result c.index-self-index.result no_output c.index.ensures.is h

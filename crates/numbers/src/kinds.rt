@@ -1,0 +1,46 @@
+// The kinds of things that are numbered. None of them has a value: a kind only tells types apart.
+use crate::numbering::{Kind, Number};
+
+// Input servers: 0 to 7.
+pub enum Input {}
+
+impl Kind for Input {
+    ghost LIMIT = { 8 };
+
+    const LIMIT: u8 = 8;
+}
+
+// Output servers: 0 to 7.
+pub enum Output {}
+
+impl Kind for Output {
+    ghost LIMIT = { 8 };
+
+    const LIMIT: u8 = 8;
+}
+
+// Objects: 0 to 15.
+pub enum Object {}
+
+impl Kind for Object {
+    ghost LIMIT = { 16 };
+
+    const LIMIT: u8 = 16;
+}
+
+// How many servers there are on one side: 0 to 8.
+pub enum Servers {}
+
+impl Kind for Servers {
+    ghost LIMIT = { 9 };
+
+    const LIMIT: u8 = 9;
+}
+
+pub type InputNumber = Number<Input>;
+
+pub type OutputNumber = Number<Output>;
+
+pub type ObjectNumber = Number<Object>;
+
+pub type ServerCount = Number<Servers>;
