@@ -1,5 +1,5 @@
 // The tests of an advance.
-ghost use Rattle.std.specs.Prelude.{◌≡◌, ◌+◌, nat_le};
+ghost use Rattle.std.specs.Prelude.{◌≡◌, true, ◌+◌, nat_le};
 ghost use Rattle.numbers.specs.Numbers.{last_time};
 ghost use Rattle.rules.specs.Calls.{keeps_with, keeps_drift};
 ghost use Rattle.checks.specs.Refused.{refusal_said, advancing_refusal};
@@ -7,18 +7,10 @@ ghost use Rattle.checks.specs.Refused.{refusal_said, advancing_refusal};
 use numbers::{Drift, Time};
 use quorum::Refusal;
 
-// The first refusal that an advance meets before it looks at the clocks.
-pub fn check_advance(
-    is_open: bool,
-    as_opened: bool,
-    increments: usize,
-    servers: usize,
-) -> Result<(), Refusal>
-    ensures { refusal_said result ≡ advancing_refusal is_open as_opened increments servers }
+// The first refusal that an advance of an open field meets before it looks at the clocks.
+pub fn check_advance(as_opened: bool, increments: usize, servers: usize) -> Result<(), Refusal>
+    ensures { refusal_said result ≡ advancing_refusal true as_opened increments servers }
 {
-    if !is_open {
-        return Err(Refusal::NotOpen);
-    }
     if !as_opened {
         return Err(Refusal::NotAsOpened);
     }

@@ -1,12 +1,11 @@
 // The tests of a beginning.
-ghost use Rattle.std.specs.Prelude.{◌≡◌};
+ghost use Rattle.std.specs.Prelude.{◌≡◌, true};
 ghost use Rattle.checks.specs.Refused.{refusal_said, beginning_refusal};
 
 use quorum::Refusal;
 
-// The first refusal that a beginning meets.
+// The first refusal that a beginning in an open field meets.
 pub fn check_beginning(
-    is_open: bool,
     as_opened: bool,
     object: u64,
     objects: u8,
@@ -14,11 +13,8 @@ pub fn check_beginning(
     begun: u16,
     room: bool,
 ) -> Result<(), Refusal>
-    ensures { refusal_said result ≡ beginning_refusal is_open as_opened object objects table_len begun room }
+    ensures { refusal_said result ≡ beginning_refusal true as_opened object objects table_len begun room }
 {
-    if !is_open {
-        return Err(Refusal::NotOpen);
-    }
     if !as_opened {
         return Err(Refusal::NotAsOpened);
     }

@@ -1,5 +1,5 @@
 -- Beginning: what its tests say, and what it leaves.
-use Rattle.std.proofs.Common.{◌≡◌, ℕ, ◌+◌, ◌<◌, ◌≤◌, Bool, not, leb, List, [], ◌∷◌, map, length, set, sym, refl, ap, ◌∙◌, arith}
+use Rattle.std.proofs.Common.{◌≡◌, ℕ, true, Some, ◌+◌, ◌<◌, ◌≤◌, Bool, not, leb, List, [], ◌∷◌, map, length, set, sym, refl, ap, ◌∙◌, arith}
 use Rattle.std.proofs.lemmas.List.{length-map, map-set}
 use Rattle.std.proofs.lemmas.Bool.{not-false, leb-false, leb-true}
 use Rattle.quorum.specs.declared.refusal.Refusal.{Refusal}
@@ -47,10 +47,10 @@ read_refuses i o b s e r =
 
 -- over the table itself
 pub checks_table : (i o : System) (b : ℕ) (f : Interior) (log : List Message) (table : List Operation) (as-opened room : Bool)
-    → beginning_refusal f.is_open as-opened b f.objects (length table) f.begun room
-    ≡ beginning_refusal f.is_open as-opened b f.objects (length (map operation_of table)) f.begun room
+    → beginning_refusal true as-opened b f.objects (length table) f.begun room
+    ≡ beginning_refusal true as-opened b f.objects (length (map operation_of table)) f.begun room
 checks_table i o b f log table as-opened room =
-    ap (λ (l : ℕ). beginning_refusal f.is_open as-opened b f.objects l f.begun room) (sym (length-map table operation_of))
+    ap (λ (l : ℕ). beginning_refusal true as-opened b f.objects l f.begun room) (sym (length-map table operation_of))
 
 -- what is known where they pass
 pub record Beginnable (i o : System) (f : Interior) (log : List Message) (table : List Operation) (b : ℕ) : Type 0 where
@@ -59,7 +59,7 @@ pub record Beginnable (i o : System) (f : Interior) (log : List Message) (table 
   pub few : f.begun < 1024
   pub room : f.made + 9 ≤ length log
 
-pub beginnable : (i o : System) (f : Interior) (log : List Message) (table : List Operation) (b : ℕ) → Sound f
+pub beginnable : (i o : System) (f : Interior) (log : List Message) (table : List Operation) (b : ℕ) → Sound (Some f)
     → 0 ≡ beginning_check i o b (state_of f log table) → Beginnable i o f log table b
 beginnable i o f log table b sound r =
     let s = state_of f log table in
@@ -67,8 +67,8 @@ beginnable i o f log table b sound r =
     let q = passes_first (leb f.objects b) 20 _ p.2 in
     let t = passes_first (leb (length s.table) f.begun) 21 _ q.1 in
     let u = passes_first (not (has_nine s)) 22 0 t.1 in
-    let lent = lent_of i o f log table p.0 p.1 in
-    let numbers = numbers_of f sound p.0 in
+    let lent = lent_of i o f log table p.1 in
+    let numbers = numbers_of f sound in
     let object = leb-false f.objects b q.0 in
     let free = leb-false (length s.table) f.begun t.0 in
     let few = numbers.objects in

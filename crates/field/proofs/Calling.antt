@@ -1,5 +1,5 @@
 -- The calls of an open field: what their tests say of the rules' own calls, and what is known where the tests pass.
-use Rattle.std.proofs.Common.{◌≡◌, ℕ, ◌+◌, ◌≤◌, Bool, true, false, cond, not, ◌||◌, eqb, ltb, List, map, length, sym, refl, ap, ◌∙◌, arith}
+use Rattle.std.proofs.Common.{◌≡◌, ℕ, ◌+◌, ◌≤◌, Bool, true, false, cond, not, ◌||◌, eqb, ltb, List, map, length, Some, sym, refl, ap, ◌∙◌, arith}
 use Rattle.std.proofs.lemmas.List.{length-map}
 use Rattle.std.proofs.lemmas.Bool.{and_parts, or_parts, not-false, eqb-true, eqb-false, ltb-false, leb-true}
 use Rattle.quorum.specs.declared.refusal.Refusal.{Refusal}
@@ -30,20 +30,18 @@ lent_as i o f log table n m p q =
 
 -- what every call but opening has found
 pub record Lent (i o : System) (f : Interior) (log : List Message) (table : List Operation) : Type 0 where
-  pub is_open : f.is_open ≡ true
   pub log_as : length log ≡ f.log_len
   pub table_as : length table ≡ f.table_len
   pub inputs_as : i.count ≡ f.input_count.number
   pub outputs_as : o.count ≡ f.output_count.number
 
-pub lent_of : (i o : System) (f : Interior) (log : List Message) (table : List Operation) → f.is_open ≡ true → as_opened i o (state_of f log table) ≡ true
+pub lent_of : (i o : System) (f : Interior) (log : List Message) (table : List Operation) → as_opened i o (state_of f log table) ≡ true
     → Lent i o f log table
-lent_of i o f log table a b =
+lent_of i o f log table b =
     let p = and_parts (eqb (length log) f.log_len) _ b in
     let q = and_parts (eqb (length (map operation_of table)) f.table_len) _ p.1 in
     let r = and_parts (eqb i.count f.input_count.number) (eqb o.count f.output_count.number) q.1 in
     record {
-      is_open = a;
       log_as = eqb-true (length log) f.log_len p.0;
       table_as = sym (length-map table operation_of) ∙ eqb-true (length (map operation_of table)) f.table_len q.0;
       inputs_as = eqb-true i.count f.input_count.number r.0;
@@ -98,7 +96,7 @@ pub record Passed (i o : System) (f : Interior) (log : List Message) (table : Li
   pub made : number ≤ f.made
   pub room : f.made + 9 ≤ length log
 
-pub delivery_passed : (i o : System) (f : Interior) (log : List Message) (table : List Operation) (number : ℕ) → Sound f
+pub delivery_passed : (i o : System) (f : Interior) (log : List Message) (table : List Operation) (number : ℕ) → Sound (Some f)
     → 0 ≡ delivery_check i o number (state_of f log table) → Passed i o f log table number
 delivery_passed i o f log table number sound r =
     let s = state_of f log table in
@@ -108,8 +106,8 @@ delivery_passed i o f log table number sound r =
     let u = or_parts (eqb number 0) (ltb f.made number) q.0 in
     let some : number ≡ 0 → ⊥ = eqb-false number 0 u.0 in
     record {
-      lent = lent_of i o f log table p.0 p.1;
-      numbers = numbers_of f sound p.0;
+      lent = lent_of i o f log table p.1;
+      numbers = numbers_of f sound;
       low = grind arith;
       made = ltb-false f.made number u.1;
       room = leb-true (f.made + 9) (length log) (not-false (has_nine s) t.0);

@@ -13,3 +13,4 @@ pub mod Reaches
 pub mod Received
 pub mod Refusing
 pub mod Sounds
+pub mod Closed

@@ -1,5 +1,5 @@
 -- Opening: what its tests say, and what it leaves.
-use Rattle.std.proofs.Common.{◌≡◌, ℕ, zero, suc, ◌+◌, ◌<◌, ◌≤◌, Bool, true, not, ◌&&◌, ◌||◌, eqb, ltb, leb, List, [], ◌∷◌, map, length, get_or, take, drop, sym, refl, ap, ◌∙◌, zero-add, arith}
+use Rattle.std.proofs.Common.{◌≡◌, ℕ, zero, suc, ◌+◌, ◌<◌, ◌≤◌, Bool, true, false, not, ◌&&◌, ◌||◌, eqb, ltb, leb, List, [], ◌∷◌, map, length, get_or, take, drop, Some, None, Option, is_some, sym, refl, ap, ◌∙◌, zero-add, arith}
 use Rattle.std.proofs.lemmas.List.{get_or-take, get_or-drop, get_or_past, length-take-le, length-map}
 use Rattle.std.proofs.lemmas.Bool.{cond_both, cond-true, and_parts, or_parts, not-false, eqb-true, ltb-false, leb-true, ltb-true}
 use Rattle.quorum.specs.declared.refusal.Refusal.{Refusal}
@@ -11,7 +11,7 @@ use Rattle.rules.specs.Calls.{start_clock, opened, clocks_fit, opening}
 use Rattle.rules.specs.Input.{first_input}
 use Rattle.rules.specs.Lists.{each}
 use Rattle.rules.specs.Output.{first_output}
-use Rattle.rules.specs.State.{State, accepted, outcome, refuse}
+use Rattle.rules.specs.State.{State, Outcome, accepted, outcome, refuse}
 use Rattle.operation.specs.declared.table.Operation.{Operation}
 use Rattle.operation.specs.States.{operation_of}
 use Rattle.rules.specs.declared.message.Message.{Message}
@@ -19,7 +19,8 @@ use Rattle.servers.specs.Views.{inputs_of, outputs_of}
 use Rattle.servers.specs.Starting.{shown_as, starts_at, first_inputs, first_outputs}
 use Rattle.field.specs.declared.interior.Interior.{Interior}
 use Rattle.field.specs.Opened.{OpeningFits, opened_frame}
-use Rattle.field.specs.Views.{frame_of, state_of}
+use Rattle.field.specs.Unopened.{unopened}
+use Rattle.field.specs.Views.{frame_of, state_of, field_of}
 use Rattle.checks.specs.Refused.{opening_refusal}
 use Rattle.field.proofs.Refusing.{decide, refuses_first, passes_first, call_refuses, call_passes}
 
@@ -97,13 +98,13 @@ starts_outputs ts n m l e = ap (each 8) (λ k j. first_output (outputs_start ts 
 
 -- ---- what is left
 
-pub opened_is : (f : Interior) (log : List Message) (table : List Operation) (g : Interior) (n m k lease drift : ℕ) (clocks : List Time)
+opened_is : (log : List Message) (table : List Operation) (g : Interior) (n m k lease drift : ℕ) (clocks : List Time)
     → OpeningFits n m k lease drift clocks
     → frame_of g ≡ opened_frame n m k lease drift (length log) (length table)
     → (g.made ≡ 0) × (g.begun ≡ 0)
     → inputs_of g.inputs ≡ first_inputs (take n clocks) → outputs_of g.outputs ≡ first_outputs (drop n clocks)
-    → outcome accepted (opened n m k lease drift clocks (state_of f log table)) ≡ outcome accepted (state_of g log table)
-opened_is f log table g n m k lease drift clocks fits frame zeros ins outs =
+    → outcome accepted (opened n m k lease drift clocks (unopened log (map operation_of table))) ≡ outcome accepted (state_of g log table)
+opened_is log table g n m k lease drift clocks fits frame zeros ins outs =
     let a = starts_inputs clocks n m fits.count fits.shown in
     let b = starts_outputs clocks n m fits.count fits.shown in
     let c : opened_frame n m k lease drift (length log) (length (map operation_of table)) ≡ frame_of g =
@@ -121,35 +122,45 @@ opened_is f log table g n m k lease drift clocks fits frame zeros ins outs =
 -- ---- the call
 
 -- its tests, over the log and the table themselves
-tests : (i o : System) (k lease drift : ℕ) (clocks : List Time) (f : Interior) (log : List Message) (table : List Operation)
-    → opening i o k lease drift clocks (state_of f log table)
-    ≡ decide (opening_refusal f.is_open i.count o.count k lease drift clocks (length log) (length table))
-    (outcome accepted (opened i.count o.count k lease drift clocks (state_of f log table))) (state_of f log table)
-tests i o k lease drift clocks f log table =
-    opening_is i o k lease drift clocks (state_of f log table)
-    ∙ ap (λ (l : ℕ). decide (opening_refusal f.is_open i.count o.count k lease drift clocks (length log) l)
-    (outcome accepted (opened i.count o.count k lease drift clocks (state_of f log table))) (state_of f log table)) (length-map table operation_of)
+tests : (i o : System) (k lease drift : ℕ) (clocks : List Time) (f : Option Interior) (log : List Message) (table : List Operation)
+    → opening i o k lease drift clocks (field_of f log table)
+    ≡ decide (opening_refusal (is_some f) i.count o.count k lease drift clocks (length log) (length table))
+    (outcome accepted (opened i.count o.count k lease drift clocks (unopened log (map operation_of table)))) (field_of f log table)
+tests i o k lease drift clocks f log table = over f
+  where
+    places : (b : Bool) (Y : Outcome) (s : State)
+        → decide (opening_refusal b i.count o.count k lease drift clocks (length log) (length (map operation_of table))) Y s
+        ≡ decide (opening_refusal b i.count o.count k lease drift clocks (length log) (length table)) Y s
+    places b Y s = ap (λ (l : ℕ). decide (opening_refusal b i.count o.count k lease drift clocks (length log) l) Y s) (length-map table operation_of)
 
-pub open_refuses : (i o : System) (k lease drift : ℕ) (clocks : List Time) (f : Interior) (log : List Message) (table : List Operation) (n m : ℕ) (e : Refusal)
+    over : (f : Option Interior)
+        → opening i o k lease drift clocks (field_of f log table)
+        ≡ decide (opening_refusal (is_some f) i.count o.count k lease drift clocks (length log) (length table))
+        (outcome accepted (opened i.count o.count k lease drift clocks (unopened log (map operation_of table)))) (field_of f log table)
+    over None = opening_is i o k lease drift clocks (field_of None log table) ∙ places false (outcome accepted (opened i.count o.count k lease drift clocks (unopened log (map operation_of table)))) (field_of None log table)
+    over (Some f) = opening_is i o k lease drift clocks (field_of (Some f) log table) ∙ places true (outcome accepted (opened i.count o.count k lease drift clocks (unopened log (map operation_of table)))) (field_of (Some f) log table)
+
+pub open_refuses : (i o : System) (k lease drift : ℕ) (clocks : List Time) (f : Option Interior) (log : List Message) (table : List Operation) (n m : ℕ) (e : Refusal)
     → n ≡ i.count → m ≡ o.count
-    → number_of e ≡ opening_refusal f.is_open n m k lease drift clocks (length log) (length table)
-    → opening i o k lease drift clocks (state_of f log table) ≡ refuse (number_of e) (state_of f log table)
+    → number_of e ≡ opening_refusal (is_some f) n m k lease drift clocks (length log) (length table)
+    → opening i o k lease drift clocks (field_of f log table) ≡ refuse (number_of e) (field_of f log table)
 open_refuses i o k lease drift clocks f log table n m e p q r =
-    let R = λ (a b : ℕ). opening_refusal f.is_open a b k lease drift clocks (length log) (length table) in
-    call_refuses e _ _ _ (state_of f log table) (tests i o k lease drift clocks f log table)
+    let R = λ (a b : ℕ). opening_refusal (is_some f) a b k lease drift clocks (length log) (length table) in
+    call_refuses e _ _ _ (field_of f log table) (tests i o k lease drift clocks f log table)
     (r ∙ ap (λ (a : ℕ). R a m) p ∙ ap (R i.count) q)
 
-pub opens : (i o : System) (k lease drift : ℕ) (clocks : List Time) (f : Interior) (log : List Message) (table : List Operation) (g : Interior) (n m : ℕ)
+pub opens : (i o : System) (k lease drift : ℕ) (clocks : List Time) (f : Option Interior) (log : List Message) (table : List Operation) (g : Interior) (n m : ℕ)
     → n ≡ i.count → m ≡ o.count
-    → 0 ≡ opening_refusal f.is_open n m k lease drift clocks (length log) (length table)
+    → 0 ≡ opening_refusal (is_some f) n m k lease drift clocks (length log) (length table)
     → frame_of g ≡ opened_frame n m k lease drift (length log) (length table)
     → (g.made ≡ 0) × (g.begun ≡ 0)
     → inputs_of g.inputs ≡ first_inputs (take n clocks) → outputs_of g.outputs ≡ first_outputs (drop n clocks)
-    → opening i o k lease drift clocks (state_of f log table) ≡ outcome accepted (state_of g log table)
+    → opening i o k lease drift clocks (field_of f log table) ≡ outcome accepted (state_of g log table)
 opens i o k lease drift clocks f log table g n m p q r frame zeros ins outs =
-    let R = λ (a b : ℕ). opening_refusal f.is_open a b k lease drift clocks (length log) (length table) in
-    let fits = opening_fits f.is_open n m k lease drift clocks (length log) (length table) (sym r) in
-    call_passes _ _ _ (state_of f log table) (tests i o k lease drift clocks f log table) (r ∙ ap (λ (a : ℕ). R a m) p ∙ ap (R i.count) q)
-    ∙ ap (λ (a : ℕ). outcome accepted (opened a o.count k lease drift clocks (state_of f log table))) (sym p)
-    ∙ ap (λ (b : ℕ). outcome accepted (opened n b k lease drift clocks (state_of f log table))) (sym q)
-    ∙ opened_is f log table g n m k lease drift clocks fits frame zeros ins outs
+    let s = unopened log (map operation_of table) in
+    let R = λ (a b : ℕ). opening_refusal (is_some f) a b k lease drift clocks (length log) (length table) in
+    let fits = opening_fits (is_some f) n m k lease drift clocks (length log) (length table) (sym r) in
+    call_passes _ _ _ (field_of f log table) (tests i o k lease drift clocks f log table) (r ∙ ap (λ (a : ℕ). R a m) p ∙ ap (R i.count) q)
+    ∙ ap (λ (a : ℕ). outcome accepted (opened a o.count k lease drift clocks s)) (sym p)
+    ∙ ap (λ (b : ℕ). outcome accepted (opened n b k lease drift clocks s)) (sym q)
+    ∙ opened_is log table g n m k lease drift clocks fits frame zeros ins outs

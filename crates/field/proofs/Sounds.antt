@@ -1,5 +1,5 @@
 -- What the invariant of a field says, and that every call keeps it.
-use Rattle.std.proofs.Common.{◌≡◌, ℕ, ◌+◌, ◌<◌, ◌≤◌, true, List, [], length, get_or, subst, arith}
+use Rattle.std.proofs.Common.{◌≡◌, ℕ, ◌+◌, ◌<◌, ◌≤◌, true, List, [], length, get_or, Some, None, Option, sym, refl, subst, arith}
 use mathlib.Core.Logic.{∥∥₁_elim, ∥∥₁_map}
 use mathlib.Core.HLevel.{Π_prop}
 use native.Mathlib.Bridge.{le_prop}
@@ -14,8 +14,9 @@ use Rattle.operation.specs.declared.table.Operation.{Operation}
 use Rattle.servers.specs.Views.{inputs_of}
 use Rattle.field.specs.declared.interior.Interior.{Interior}
 use Rattle.field.specs.Ready.{Ready}
-use Rattle.field.specs.Sound.{Sound}
-use Rattle.field.specs.Views.{state_of}
+use Rattle.field.specs.Sound.{InBounds, Sound}
+use Rattle.field.specs.Views.{state_of, field_of}
+use Rattle.field.proofs.Refusing.{not_refused}
 
 -- ---- its numbers
 
@@ -35,9 +36,8 @@ numbers_prop f a b = λ k. record {
   epochs = Π_prop (λ i. Π_prop (λ j. Π_prop (λ _. Π_prop (λ _. le_prop)))) a.epochs b.epochs k;
 }
 
-pub numbers_of : (f : Interior) → Sound f → f.is_open ≡ true → Numbers f
-numbers_of f s opened = ∥∥₁_elim s (numbers_prop f) (λ b.
-    let d = b opened in
+pub numbers_of : (f : Interior) → Sound (Some f) → Numbers f
+numbers_of f s = ∥∥₁_elim s (numbers_prop f) (λ d.
     record {
       objects = d.k.1;
       log_most = d.log_length.1;
@@ -74,9 +74,20 @@ rebase f a b t u d = record {
 
 -- ---- every call keeps it
 
-pub sound_after : (i o : System) → Lawful i → Lawful o → (c : Call) (f g : Interior) (log log' : List Message) (table table' : List Operation) (r : Said)
-    → Sound f → outcome_of i o c (state_of f log table) ≡ outcome r (state_of g log' table') → Sound g
+-- the bounds of a field that is open, from its invariant and back
+bounded_of : (f : Option Interior) (log : List Message) (table : List Operation) → InBounds f
+    → (field_of f log table).frame.is_open ≡ true → Bounded (field_of f log table)
+bounded_of None log table b e = not_refused (sym e)
+bounded_of (Some f) log table b e = rebase f [] log [] table b
+
+in_bounds : (f : Option Interior) (log : List Message) (table : List Operation)
+    → ((field_of f log table).frame.is_open ≡ true → Bounded (field_of f log table)) → InBounds f
+in_bounds None log table h = tt
+in_bounds (Some f) log table h = rebase f log [] table [] (h refl)
+
+pub sound_after : (i o : System) → Lawful i → Lawful o → (c : Call) (f g : Option Interior) (log log' : List Message) (table table' : List Operation) (r : Said)
+    → Sound f → outcome_of i o c (field_of f log table) ≡ outcome r (field_of g log' table') → Sound g
 sound_after i o li lo c f g log log' table table' r s e = ∥∥₁_map s (λ b.
-    let kept = bounds_kept i o li lo c (state_of f log table) (λ opened. rebase f [] log [] table (b opened)) in
-    λ opened. rebase g log' [] table' []
-    (subst (λ (x : Outcome). x.after.frame.is_open ≡ true → Bounded x.after) e kept opened))
+    in_bounds g log' table'
+    (subst (λ (x : Outcome). x.after.frame.is_open ≡ true → Bounded x.after) e
+    (bounds_kept i o li lo c (field_of f log table) (bounded_of f log table b))))

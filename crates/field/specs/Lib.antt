@@ -8,4 +8,5 @@ pub mod Ranging
 pub mod Ready
 pub mod Sound
 pub mod Steps
+pub mod Unopened
 pub mod Views

@@ -1,15 +1,16 @@
--- A field with the log and the table that it is lent, as the rules speak of them.
-use Rattle.std.specs.Prelude.{List, map}
+-- A field, open or not yet, with the log and the table that it is lent, as the rules speak of them.
+use Rattle.std.specs.Prelude.{true, List, map, Some, None, Option}
 use Rattle.rules.specs.declared.message.Message.{Message}
 use Rattle.rules.specs.State.{Frame, State}
 use Rattle.operation.specs.declared.table.Operation.{Operation}
 use Rattle.operation.specs.States.{operation_of}
 use Rattle.servers.specs.Views.{inputs_of, outputs_of}
 use Rattle.field.specs.declared.interior.Interior.{Interior}
+use Rattle.field.specs.Unopened.{unopened}
 
 abbrev pub frame_of : Interior → Frame
 frame_of f = record {
-  is_open = f.is_open;
+  is_open = true;
   counts = record { n = f.input_count.number; m = f.output_count.number; k = f.objects };
   lease = f.lease.micros;
   drift = f.drift.thousandths;
@@ -27,3 +28,7 @@ state_of f log table = record {
   log = log;
   table = map operation_of table;
 }
+
+abbrev pub field_of : Option Interior → List Message → List Operation → State
+field_of None log table = unopened log (map operation_of table)
+field_of (Some f) log table = state_of f log table

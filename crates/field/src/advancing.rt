@@ -14,7 +14,7 @@ ghost use Rattle.field.specs.Sound.{Sound};
 ghost use Rattle.field.specs.Views.{state_of};
 
 use crate::interior::Interior;
-use crate::reaching::{input_number, output_number};
+use crate::reaching::numbered;
 use checks::{check_advance, keeps_drift, stays};
 use operation::Operation;
 use quorum::{QuorumSystem, Refusal, Systems};
@@ -57,7 +57,7 @@ impl Interior {
         let (n, m) = (systems.inputs.count(), systems.outputs.count());
         let as_opened = self.is_as_opened(log.len(), table.len(), n, m);
         let servers = self.input_count.index() + self.output_count.index();
-        check_advance(self.is_open, as_opened, increments.len(), servers)
+        check_advance(as_opened, increments.len(), servers)
     }
 
     // Whether no clock would pass the last time.
@@ -84,7 +84,7 @@ impl Interior {
         requires { input < 8 }
         ensures { (log : List AnyMessage) (t : List Place) → result ≡ (stay && nat_le ((input_at (state_of self.now log t) input).clock.0 + increment) last_time) }
     {
-        stay && stays(self.inputs.get(input_number(input)).clock(), increment)
+        stay && stays(self.inputs.get(numbered(input)).clock(), increment)
     }
 
     // Of the output servers, whose increments come after those.
@@ -104,7 +104,7 @@ impl Interior {
         requires { output < 8 }
         ensures { (log : List AnyMessage) (t : List Place) → result ≡ (stay && nat_le ((output_at (state_of self.now log t) output).clock.0 + increment) last_time) }
     {
-        stay && stays(self.outputs.get(output_number(output)).clock(), increment)
+        stay && stays(self.outputs.get(numbered(output)).clock(), increment)
     }
 
     fn tick_inputs(&mut self, increments: &[u64])
@@ -124,7 +124,7 @@ impl Interior {
     {
         self.inputs
             .change(
-                input_number(input),
+                numbered(input),
                 InputTick { increment },
                 &mut Log::new(&mut [], 0),
             )
@@ -149,7 +149,7 @@ impl Interior {
     {
         self.outputs
             .change(
-                output_number(output),
+                numbered(output),
                 OutputTick { increment },
                 &mut Log::new(&mut [], 0),
             )

@@ -1,5 +1,5 @@
 // Beginning an operation.
-ghost use Rattle.std.specs.Prelude.{◌≡◌, ◌<◌, false, List, length, is_ok};
+ghost use Rattle.std.specs.Prelude.{Some, ◌≡◌, ◌<◌, false, List, length, is_ok};
 ghost use Rattle.operation.specs.States.{operation_of};
 ghost use Rattle.rules.specs.declared.message.Message.{Message as AnyMessage};
 ghost use Rattle.rules.specs.Answers.{beginning_says};
@@ -27,7 +27,7 @@ impl Interior {
         object: u64,
         value: u64,
     ) -> Result<u16, Refusal>
-        requires { Sound self.old }
+        requires { Sound (Some self.old) }
         ensures does { beginning_write (I.QuorumSystem.meaning systems.now.inputs) (O.QuorumSystem.meaning systems.now.outputs) object value (state_of self.old log.old table.old) ≡ outcome (beginning_says result) (state_of self.new log.new table.new) }
         ensures same { is_ok result ≡ false → (self.new ≡ self.old) × (log.new ≡ log.old) × (table.new ≡ table.old) }
     {
@@ -47,7 +47,7 @@ impl Interior {
         systems: &Systems<I, O>,
         object: u64,
     ) -> Result<u16, Refusal>
-        requires { Sound self.old }
+        requires { Sound (Some self.old) }
         ensures does { beginning_read (I.QuorumSystem.meaning systems.now.inputs) (O.QuorumSystem.meaning systems.now.outputs) object (state_of self.old log.old table.old) ≡ outcome (beginning_says result) (state_of self.new log.new table.new) }
         ensures same { is_ok result ≡ false → (self.new ≡ self.old) × (log.new ≡ log.old) × (table.new ≡ table.old) }
     {
@@ -76,7 +76,6 @@ impl Interior {
         let as_opened = self.is_as_opened(log.len(), table.len(), n, m);
         let room = has_room(log, self.made);
         check_beginning(
-            self.is_open,
             as_opened,
             object,
             self.objects,

@@ -9,10 +9,11 @@ ghost use Rattle.rules.specs.Answers.{acceptance, beginning_says, delivery_says}
 ghost use Rattle.rules.specs.Calls.{opening as opening_of, advancing, beginning_write, beginning_read, delivering};
 ghost use Rattle.rules.specs.State.{outcome};
 ghost use Rattle.field.specs.Guaranteed.{Guaranteed};
-ghost use Rattle.field.specs.Views.{state_of};
+ghost use Rattle.field.specs.Views.{field_of};
 
 use crate::field::Field;
-use checks::Opening;
+use crate::interior::Interior;
+use checks::{Opening, check_opening};
 use numbers::Time;
 use operation::Operation;
 use quorum::{QuorumSystem, Refusal, Systems};
@@ -29,11 +30,16 @@ impl Field {
         opening: Opening,
         clocks: &[Time],
     ) -> Result<(), Refusal>
-        ensures does { opening_of (I.QuorumSystem.meaning systems.now.inputs) (O.QuorumSystem.meaning systems.now.outputs) opening.objects opening.lease opening.drift clocks.now (state_of self.old.interior log.now table.now) ≡ outcome (acceptance result) (state_of self.new.interior log.now table.now) }
+        ensures does { opening_of (I.QuorumSystem.meaning systems.now.inputs) (O.QuorumSystem.meaning systems.now.outputs) opening.objects opening.lease opening.drift clocks.now (field_of self.old.interior log.now table.now) ≡ outcome (acceptance result) (field_of self.new.interior log.now table.now) }
         ensures same { is_ok result ≡ false → self.new ≡ self.old }
-        ensures guaranteed { Guaranteed (I.QuorumSystem.meaning systems.now.inputs) (O.QuorumSystem.meaning systems.now.outputs) (to_open opening.objects opening.lease opening.drift clocks.now) (state_of self.old.interior log.now table.now) (acceptance result) (state_of self.new.interior log.now table.now) }
+        ensures guaranteed { Guaranteed (I.QuorumSystem.meaning systems.now.inputs) (O.QuorumSystem.meaning systems.now.outputs) (to_open opening.objects opening.lease opening.drift clocks.now) (field_of self.old.interior log.now table.now) (acceptance result) (field_of self.new.interior log.now table.now) }
     {
-        self.interior.open(log, table, systems, opening, clocks)
+        let (n, m) = (systems.inputs.count(), systems.outputs.count());
+        let is_open = self.interior.is_some();
+        check_opening(is_open, n, m, opening, clocks, log.len(), table.len())?;
+        let interior = Interior::new(n, m, opening, clocks, log.len(), table.len());
+        self.interior = Some(interior);
+        Ok(())
     }
 
     // Moves every clock by its increment, the input servers first.
@@ -44,11 +50,14 @@ impl Field {
         systems: &Systems<I, O>,
         increments: &[u64],
     ) -> Result<(), Refusal>
-        ensures does { advancing (I.QuorumSystem.meaning systems.now.inputs) (O.QuorumSystem.meaning systems.now.outputs) increments.now (state_of self.old.interior log.now table.now) ≡ outcome (acceptance result) (state_of self.new.interior log.now table.now) }
+        ensures does { advancing (I.QuorumSystem.meaning systems.now.inputs) (O.QuorumSystem.meaning systems.now.outputs) increments.now (field_of self.old.interior log.now table.now) ≡ outcome (acceptance result) (field_of self.new.interior log.now table.now) }
         ensures same { is_ok result ≡ false → self.new ≡ self.old }
-        ensures guaranteed { Guaranteed (I.QuorumSystem.meaning systems.now.inputs) (O.QuorumSystem.meaning systems.now.outputs) (to_advance increments.now) (state_of self.old.interior log.now table.now) (acceptance result) (state_of self.new.interior log.now table.now) }
+        ensures guaranteed { Guaranteed (I.QuorumSystem.meaning systems.now.inputs) (O.QuorumSystem.meaning systems.now.outputs) (to_advance increments.now) (field_of self.old.interior log.now table.now) (acceptance result) (field_of self.new.interior log.now table.now) }
     {
-        self.interior.advance(log, table, systems, increments)
+        match &mut self.interior {
+            Some(interior) => interior.advance(log, table, systems, increments),
+            None => Err(Refusal::NotOpen),
+        }
     }
 
     // Begins a write of a value to an object, and gives the operation's number.
@@ -60,12 +69,14 @@ impl Field {
         object: u64,
         value: u64,
     ) -> Result<u16, Refusal>
-        ensures does { beginning_write (I.QuorumSystem.meaning systems.now.inputs) (O.QuorumSystem.meaning systems.now.outputs) object value (state_of self.old.interior log.old table.old) ≡ outcome (beginning_says result) (state_of self.new.interior log.new table.new) }
+        ensures does { beginning_write (I.QuorumSystem.meaning systems.now.inputs) (O.QuorumSystem.meaning systems.now.outputs) object value (field_of self.old.interior log.old table.old) ≡ outcome (beginning_says result) (field_of self.new.interior log.new table.new) }
         ensures same { is_ok result ≡ false → (self.new ≡ self.old) × (log.new ≡ log.old) × (table.new ≡ table.old) }
-        ensures guaranteed { Guaranteed (I.QuorumSystem.meaning systems.now.inputs) (O.QuorumSystem.meaning systems.now.outputs) (to_write object value) (state_of self.old.interior log.old table.old) (beginning_says result) (state_of self.new.interior log.new table.new) }
+        ensures guaranteed { Guaranteed (I.QuorumSystem.meaning systems.now.inputs) (O.QuorumSystem.meaning systems.now.outputs) (to_write object value) (field_of self.old.interior log.old table.old) (beginning_says result) (field_of self.new.interior log.new table.new) }
     {
-        self.interior
-            .begin_write(log, table, systems, object, value)
+        match &mut self.interior {
+            Some(interior) => interior.begin_write(log, table, systems, object, value),
+            None => Err(Refusal::NotOpen),
+        }
     }
 
     // Begins a read of an object, and gives the operation's number.
@@ -76,11 +87,14 @@ impl Field {
         systems: &Systems<I, O>,
         object: u64,
     ) -> Result<u16, Refusal>
-        ensures does { beginning_read (I.QuorumSystem.meaning systems.now.inputs) (O.QuorumSystem.meaning systems.now.outputs) object (state_of self.old.interior log.old table.old) ≡ outcome (beginning_says result) (state_of self.new.interior log.new table.new) }
+        ensures does { beginning_read (I.QuorumSystem.meaning systems.now.inputs) (O.QuorumSystem.meaning systems.now.outputs) object (field_of self.old.interior log.old table.old) ≡ outcome (beginning_says result) (field_of self.new.interior log.new table.new) }
         ensures same { is_ok result ≡ false → (self.new ≡ self.old) × (log.new ≡ log.old) × (table.new ≡ table.old) }
-        ensures guaranteed { Guaranteed (I.QuorumSystem.meaning systems.now.inputs) (O.QuorumSystem.meaning systems.now.outputs) (to_read object) (state_of self.old.interior log.old table.old) (beginning_says result) (state_of self.new.interior log.new table.new) }
+        ensures guaranteed { Guaranteed (I.QuorumSystem.meaning systems.now.inputs) (O.QuorumSystem.meaning systems.now.outputs) (to_read object) (field_of self.old.interior log.old table.old) (beginning_says result) (field_of self.new.interior log.new table.new) }
     {
-        self.interior.begin_read(log, table, systems, object)
+        match &mut self.interior {
+            Some(interior) => interior.begin_read(log, table, systems, object),
+            None => Err(Refusal::NotOpen),
+        }
     }
 
     // Delivers the message with that number, and says whether an operation ended with it.
@@ -91,10 +105,13 @@ impl Field {
         systems: &Systems<I, O>,
         number: usize,
     ) -> Result<Delivery, Refusal>
-        ensures does { delivering (I.QuorumSystem.meaning systems.now.inputs) (O.QuorumSystem.meaning systems.now.outputs) number (state_of self.old.interior log.old table.old) ≡ outcome (delivery_says result) (state_of self.new.interior log.new table.new) }
+        ensures does { delivering (I.QuorumSystem.meaning systems.now.inputs) (O.QuorumSystem.meaning systems.now.outputs) number (field_of self.old.interior log.old table.old) ≡ outcome (delivery_says result) (field_of self.new.interior log.new table.new) }
         ensures same { is_ok result ≡ false → (self.new ≡ self.old) × (log.new ≡ log.old) × (table.new ≡ table.old) }
-        ensures guaranteed { Guaranteed (I.QuorumSystem.meaning systems.now.inputs) (O.QuorumSystem.meaning systems.now.outputs) (to_deliver number) (state_of self.old.interior log.old table.old) (delivery_says result) (state_of self.new.interior log.new table.new) }
+        ensures guaranteed { Guaranteed (I.QuorumSystem.meaning systems.now.inputs) (O.QuorumSystem.meaning systems.now.outputs) (to_deliver number) (field_of self.old.interior log.old table.old) (delivery_says result) (field_of self.new.interior log.new table.new) }
     {
-        self.interior.deliver(log, table, systems, number)
+        match &mut self.interior {
+            Some(interior) => interior.deliver(log, table, systems, number),
+            None => Err(Refusal::NotOpen),
+        }
     }
 }

@@ -1,5 +1,5 @@
 // Delivering a message.
-ghost use Rattle.std.specs.Prelude.{◌≡◌, ◌≤◌, true, false, List, length, is_ok};
+ghost use Rattle.std.specs.Prelude.{Some, ◌≡◌, ◌≤◌, true, false, List, length, is_ok};
 ghost use Rattle.operation.specs.declared.table.Operation.{Operation as Place};
 ghost use Rattle.quorum.specs.Systems.{System};
 ghost use Rattle.rules.specs.Answers.{end_of, delivery_says};
@@ -29,7 +29,7 @@ impl Interior {
         systems: &Systems<I, O>,
         number: usize,
     ) -> Result<Delivery, Refusal>
-        requires { Sound self.old }
+        requires { Sound (Some self.old) }
         ensures does { delivering (I.QuorumSystem.meaning systems.now.inputs) (O.QuorumSystem.meaning systems.now.outputs) number (state_of self.old log.old table.old) ≡ outcome (delivery_says result) (state_of self.new log.new table.new) }
         ensures same { is_ok result ≡ false → (self.new ≡ self.old) × (log.new ≡ log.old) × (table.new ≡ table.old) }
     {
@@ -52,7 +52,7 @@ impl Interior {
         let (n, m) = (systems.inputs.count(), systems.outputs.count());
         let as_opened = self.is_as_opened(log.len(), table.len(), n, m);
         let room = has_room(log, self.made);
-        check_delivery(self.is_open, as_opened, number, self.made, room)
+        check_delivery(as_opened, number, self.made, room)
     }
 
     // The message is handed to the server or the operation that it is for.

@@ -2,11 +2,11 @@ ghost use Rattle.field.specs.Sound.{Sound};
 
 use crate::interior::Interior;
 
-// A field: input servers, output servers, and how many messages were made and operations begun. The
-// log of messages and the table of operations lie with the caller.
+// A field: once it is open, its servers, and how many messages were made and operations begun. The log
+// of messages and the table of operations lie with the caller.
 #[derive(Drop)]
 pub struct Field {
-    pub(crate) interior: Interior,
-    // once it is open, all its numbers are in their ranges
+    pub(crate) interior: Option<Interior>,
+    // all its numbers are in their ranges
     ghost sound: { Sound interior },
 }

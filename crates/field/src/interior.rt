@@ -1,10 +1,9 @@
 use numbers::{Drift, LeaseLength, ServerCount};
 use servers::{InputServers, OutputServers};
 
-// What a field keeps. The ranges of these numbers stand in the field around it.
+// What an open field keeps. The ranges of these numbers stand in the field around it.
 #[derive(Drop)]
 pub(crate) struct Interior {
-    pub(crate) is_open: bool,
     // what opening fixes
     pub(crate) input_count: ServerCount,
     pub(crate) output_count: ServerCount,

@@ -5,37 +5,19 @@ ghost use Rattle.operation.specs.States.{operation_of};
 ghost use Rattle.rules.specs.declared.message.Message.{Message as AnyMessage};
 ghost use Rattle.rules.specs.Calls.{no_message};
 ghost use Rattle.rules.specs.Operation.{unused};
-ghost use Rattle.field.specs.Looks.{unopened};
-ghost use Rattle.field.specs.Views.{state_of};
+ghost use Rattle.field.specs.Unopened.{unopened};
+ghost use Rattle.field.specs.Views.{field_of};
 
 use crate::field::Field;
-use crate::interior::Interior;
-use numbers::{Drift, LeaseLength, ServerCount};
 use operation::Operation;
 use rules::Message;
-use servers::{InputServers, OutputServers};
 
 impl Field {
     // A field that is not yet open. It has no servers, and refuses every call but opening.
     pub fn new() -> Field
-        ensures { (log : List AnyMessage) (t : List Place) → state_of result.interior log t ≡ unopened log (map operation_of t) }
+        ensures { (log : List AnyMessage) (t : List Place) → field_of result.interior log t ≡ unopened log (map operation_of t) }
     {
-        Field {
-            interior: Interior {
-                is_open: false,
-                input_count: no_servers(),
-                output_count: no_servers(),
-                objects: 0,
-                lease: no_lease(),
-                drift: no_drift(),
-                log_len: 0,
-                table_len: 0,
-                made: 0,
-                begun: 0,
-                inputs: InputServers::new(&[]),
-                outputs: OutputServers::new(&[]),
-            },
-        }
+        Field { interior: None }
     }
 }
 
@@ -54,22 +36,4 @@ pub fn blank_operation() -> Operation
     ensures { operation_of result ≡ unused }
 {
     Operation::Unused
-}
-
-fn no_servers() -> ServerCount
-    ensures { result.number ≡ 0 }
-{
-    ServerCount::try_from(0).unwrap()
-}
-
-fn no_lease() -> LeaseLength
-    ensures { result.micros ≡ 0 }
-{
-    LeaseLength::try_from(0).unwrap()
-}
-
-fn no_drift() -> Drift
-    ensures { result.thousandths ≡ 0 }
-{
-    Drift::try_from(0).unwrap()
 }

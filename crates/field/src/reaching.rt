@@ -1,6 +1,5 @@
 // An event reaches a server of the field.
 ghost use Rattle.std.specs.Prelude.{◌≡◌, ◌<◌, ◌≤◌, List, slice_index_or};
-ghost use Rattle.numbers.specs.Numbers.{longest, last_time};
 ghost use Rattle.operation.specs.declared.table.Operation.{Operation as Place};
 ghost use Rattle.rules.specs.State.{no_input, no_output};
 ghost use Rattle.servers.specs.Views.{inputs_of, outputs_of};
@@ -8,7 +7,7 @@ ghost use Rattle.field.specs.Steps.{Taken, after_input, after_output};
 ghost use Rattle.field.specs.Views.{state_of};
 
 use crate::interior::Interior;
-use numbers::{InputNumber, LeaseLength, Moment, ObjectNumber, OutputNumber, Time};
+use numbers::{Kind, Number};
 use rules::{Log, Message};
 use servers::{InputEvent, OutputEvent};
 
@@ -21,7 +20,7 @@ impl Interior {
     {
         let mut log = Log::new(log, self.made);
         self.inputs
-            .change(input_number(input), event, &mut log)
+            .change(numbered(input), event, &mut log)
             .unwrap();
         self.made = log.made();
     }
@@ -34,43 +33,16 @@ impl Interior {
     {
         let mut log = Log::new(log, self.made);
         self.outputs
-            .change(output_number(output), event, &mut log)
+            .change(numbered(output), event, &mut log)
             .unwrap();
         self.made = log.made();
     }
 }
 
-pub(crate) fn input_number(number: u8) -> InputNumber
-    requires { number < 8 }
+// A number that is known to be in the range of its kind.
+pub(crate) fn numbered<K: Kind>(number: u8) -> Number<K>
+    requires { number < K.LIMIT }
     ensures { result.number ≡ number }
 {
-    InputNumber::try_from(number).unwrap()
-}
-
-pub(crate) fn output_number(number: u8) -> OutputNumber
-    requires { number < 8 }
-    ensures { result.number ≡ number }
-{
-    OutputNumber::try_from(number).unwrap()
-}
-
-pub(crate) fn object_number(number: u8) -> ObjectNumber
-    requires { number < 16 }
-    ensures { result.number ≡ number }
-{
-    ObjectNumber::try_from(number).unwrap()
-}
-
-pub(crate) fn moment_of(time: Time) -> Moment
-    requires { time.0 ≤ last_time }
-    ensures { result.micros ≡ time.0 }
-{
-    Moment::try_from(time).unwrap()
-}
-
-pub(crate) fn length_of(micros: u32) -> LeaseLength
-    requires { micros ≤ longest }
-    ensures { result.micros ≡ micros }
-{
-    LeaseLength::try_from(micros).unwrap()
+    Number::try_from(number).unwrap()
 }

@@ -8,8 +8,8 @@ ghost use Rattle.field.specs.Ready.{Ready};
 ghost use Rattle.field.specs.Views.{frame_of, state_of};
 
 use crate::interior::Interior;
-use crate::reaching::{input_number, length_of, moment_of, object_number, output_number};
-use numbers::{Epoch, Time, Version};
+use crate::reaching::numbered;
+use numbers::{Epoch, LeaseLength, Moment, Time, Version};
 use output_server::Renewal;
 use quorum::QuorumSystem;
 use rules::{Message, Pairs, Parts};
@@ -40,10 +40,11 @@ impl Interior {
         requires fits { numbers_fit (frame_of self.old).counts (Message.WriteRequest operation input object version value) ≡ true }
         ensures { (i o : System) (t : List Place) → receives i o (Message.WriteRequest operation input object version value) (state_of self.old log.old t) ≡ quiet (state_of self.new log.new t) }
     {
+        let object = numbered(object);
         let request = WriteRequest {
             outputs: self.output_count,
             operation,
-            object: object_number(object),
+            object,
             version,
             value,
         };
@@ -63,10 +64,12 @@ impl Interior {
         requires fits { numbers_fit (frame_of self.old).counts (Message.RenewalRequest output input parts object stamp) ≡ true }
         ensures { (i o : System) (t : List Place) → receives i o (Message.RenewalRequest output input parts object stamp) (state_of self.old log.old t) ≡ quiet (state_of self.new log.new t) }
     {
+        let output = numbered(output);
+        let object = numbered(object);
         let request = RenewalRequest {
-            output: output_number(output),
+            output,
             parts,
-            object: object_number(object),
+            object,
             stamp,
             lease: self.lease,
         };
@@ -84,10 +87,8 @@ impl Interior {
         requires fits { numbers_fit (frame_of self.old).counts (Message.InvalidationAnswer output input list) ≡ true }
         ensures { (i o : System) (t : List Place) → receives i o (Message.InvalidationAnswer output input list) (state_of self.old log.old t) ≡ quiet (state_of self.new log.new t) }
     {
-        let answer = Acknowledgement {
-            output: output_number(output),
-            list,
-        };
+        let output = numbered(output);
+        let answer = Acknowledgement { output, list };
         self.reach_input(log, input, answer);
     }
 
@@ -104,10 +105,11 @@ impl Interior {
         requires fits { numbers_fit (frame_of self.old).counts (Message.ReadRequest operation output object) ≡ true }
         ensures { (o : System) (t : List Place) → receives (I.meaning inputs.now) o (Message.ReadRequest operation output object) (state_of self.old log.old t) ≡ quiet (state_of self.new log.new t) }
     {
+        let object = numbered(object);
         let request = ReadRequest {
             inputs,
             operation,
-            object: object_number(object),
+            object,
         };
         self.reach_output(log, output, request);
     }
@@ -124,9 +126,11 @@ impl Interior {
         requires fits { numbers_fit (frame_of self.old).counts (Message.Invalidation input output object version) ≡ true }
         ensures { (i o : System) (t : List Place) → receives i o (Message.Invalidation input output object version) (state_of self.old log.old t) ≡ quiet (state_of self.new log.new t) }
     {
+        let sender = numbered(input);
+        let object = numbered(object);
         let invalidation = Invalidation {
-            input: input_number(input),
-            object: object_number(object),
+            input: sender,
+            object,
             version,
         };
         self.reach_output(log, output, invalidation);
@@ -150,18 +154,22 @@ impl Interior {
         requires fits { numbers_fit (frame_of self.old).counts (Message.RenewalAnswer input output parts object version value epoch stamp length list) ≡ true }
         ensures { (i o : System) (t : List Place) → receives i o (Message.RenewalAnswer input output parts object version value epoch stamp length list) (state_of self.old log.old t) ≡ quiet (state_of self.new log.new t) }
     {
+        let sender = numbered(input);
+        let object = numbered(object);
+        let stamp = Moment::try_from(stamp).unwrap();
+        let length = LeaseLength::try_from(length).unwrap();
         let renewal = Renewal {
             parts,
-            object: object_number(object),
+            object,
             version,
             value,
             epoch,
-            stamp: moment_of(stamp),
-            length: length_of(length),
+            stamp,
+            length,
             list,
         };
         let answer = RenewalAnswer {
-            input: input_number(input),
+            input: sender,
             renewal,
             drift: self.drift,
         };

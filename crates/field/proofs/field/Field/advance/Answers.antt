@@ -1,26 +1,45 @@
+use Rattle.std.proofs.Common.{Some, Option, ap, ◌∙◌}
 use Rattle.guarantee.specs.Story.{to_advance, outcome_of}
 use Rattle.rules.specs.Answers.{acceptance}
-use Rattle.field.specs.Views.{state_of}
+use Rattle.rules.specs.Calls.{advancing}
+use Rattle.rules.specs.State.{refused}
+use Rattle.field.specs.declared.interior.Interior.{Interior}
+use Rattle.field.specs.Views.{field_of}
+use Rattle.field.proofs.Closed.{advance_closed}
 use Rattle.field.proofs.Continued.{guaranteed}
-use Rattle.field.proofs.Fields.{same_field}
 use Rattle.field.proofs.Sounds.{sound_after}
 use Rattle.field.proofs.field.Field.advance.Goals as goal
 
+pub returns-in-None-clause-does : goal.returns-in-None-clause-does
+returns-in-None-clause-does g c =
+    advance_closed (g.I.QuorumSystem.meaning c.args.systems.now.inputs) (g.O.QuorumSystem.meaning c.args.systems.now.outputs) c.args.self.now.interior c.args.log.now c.args.table.now c.in-None.is c.args.increments.now
+
+pub returns-in-None-clause-guaranteed : goal.returns-in-None-clause-guaranteed
+unfolding outcome_of
+returns-in-None-clause-guaranteed g c =
+    let i = g.I.QuorumSystem.meaning c.args.systems.now.inputs in
+    let o = g.O.QuorumSystem.meaning c.args.systems.now.outputs in
+    let s = field_of c.args.self.now.interior c.args.log.now c.args.table.now in
+    guaranteed i o (g.met.I.QuorumSystem.lawful c.args.systems.now.inputs) (g.met.O.QuorumSystem.lawful c.args.systems.now.outputs) (to_advance c.args.increments.now) s s (refused 8)
+    (advance_closed i o c.args.self.now.interior c.args.log.now c.args.table.now c.in-None.is c.args.increments.now)
+
 pub invariant_of-self : goal.invariant_of-self
 unfolding outcome_of
-invariant_of-self g c = record {
-  sound =
-      sound_after (g.I.QuorumSystem.meaning c.args.systems.now.inputs) (g.O.QuorumSystem.meaning c.args.systems.now.outputs) (g.met.I.QuorumSystem.lawful c.args.systems.now.inputs) (g.met.O.QuorumSystem.lawful c.args.systems.now.outputs)
-      (to_advance c.args.increments.now) c.args.self.now.interior c.advance.new.self c.args.log.now c.args.log.now c.args.table.now c.args.table.now
-      (acceptance c.advance.result) c.args.self.now.sound c.advance.ensures.does;
-}
+invariant_of-self g c =
+    let i = g.I.QuorumSystem.meaning c.args.systems.now.inputs in
+    let o = g.O.QuorumSystem.meaning c.args.systems.now.outputs in
+    let does = ap (λ (f : Option Interior). advancing i o c.args.increments.now (field_of f c.args.log.now c.args.table.now)) c.in-Some.is ∙ c.advance.ensures.does in
+    record {
+      sound =
+          sound_after i o (g.met.I.QuorumSystem.lawful c.args.systems.now.inputs) (g.met.O.QuorumSystem.lawful c.args.systems.now.outputs) (to_advance c.args.increments.now) c.args.self.now.interior (Some c.advance.new.self) c.args.log.now c.args.log.now c.args.table.now c.args.table.now
+          (acceptance c.advance.result) c.args.self.now.sound does;
+    }
 
-pub returns : goal.returns
+pub returns-in-Some-clause-guaranteed : goal.returns-in-Some-clause-guaranteed
 unfolding outcome_of
-returns g c = record {
-  does = c.advance.ensures.does;
-  same = λ e. same_field _ _ (c.advance.ensures.same e);
-  guaranteed = guaranteed (g.I.QuorumSystem.meaning c.args.systems.now.inputs) (g.O.QuorumSystem.meaning c.args.systems.now.outputs) (g.met.I.QuorumSystem.lawful c.args.systems.now.inputs) (g.met.O.QuorumSystem.lawful c.args.systems.now.outputs)
-      (to_advance c.args.increments.now) (state_of c.args.self.now.interior c.args.log.now c.args.table.now) (state_of c.advance.new.self c.args.log.now c.args.table.now)
-      (acceptance c.advance.result) c.advance.ensures.does;
-}
+returns-in-Some-clause-guaranteed g c =
+    let i = g.I.QuorumSystem.meaning c.args.systems.now.inputs in
+    let o = g.O.QuorumSystem.meaning c.args.systems.now.outputs in
+    let does = ap (λ (f : Option Interior). advancing i o c.args.increments.now (field_of f c.args.log.now c.args.table.now)) c.in-Some.is ∙ c.advance.ensures.does in
+    guaranteed i o (g.met.I.QuorumSystem.lawful c.args.systems.now.inputs) (g.met.O.QuorumSystem.lawful c.args.systems.now.outputs) (to_advance c.args.increments.now) (field_of c.args.self.now.interior c.args.log.now c.args.table.now)
+    (field_of (Some c.advance.new.self) c.args.log.now c.args.table.now) (acceptance c.advance.result) does

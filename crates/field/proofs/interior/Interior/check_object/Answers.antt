@@ -1,4 +1,4 @@
-use Rattle.std.proofs.Common.{Bool, length, ap, ◌∙◌}
+use Rattle.std.proofs.Common.{Bool, true, length, ap, ◌∙◌}
 use Rattle.checks.specs.Refused.{beginning_refusal}
 use Rattle.field.proofs.Begins.{checks_table}
 use Rattle.field.proofs.Calling.{lent_as}
@@ -10,7 +10,7 @@ returns g c =
     let o = g.O.QuorumSystem.meaning c.args.systems.now.outputs in
     let f = c.args.self.now in
     c.check_beginning.ensures
-    ∙ ap (λ (b : Bool). beginning_refusal f.is_open b c.args.object f.objects (length c.args.table.now) f.begun c.has_room-room.result)
+    ∙ ap (λ (b : Bool). beginning_refusal true b c.args.object f.objects (length c.args.table.now) f.begun c.has_room-room.result)
     (c.is_as_opened-as_opened.ensures ∙ lent_as i o f c.args.log.now c.args.table.now _ _ c.count-n.ensures c.count-m.ensures)
-    ∙ ap (beginning_refusal f.is_open _ c.args.object f.objects (length c.args.table.now) f.begun) c.has_room-room.ensures
+    ∙ ap (beginning_refusal true _ c.args.object f.objects (length c.args.table.now) f.begun) c.has_room-room.ensures
     ∙ checks_table i o c.args.object f c.args.log.now c.args.table.now _ _

@@ -9,5 +9,5 @@ pub returns : goal.returns
 returns c = λ i o t.
     let s = state_of c.args.self.now c.args.log.now t in
     subst (λ (j : ℕ). receives i o (InvalidationAnswer j c.args.input c.args.list) s ≡ quiet (state_of c.reach_input.new.self c.reach_input.new.log t))
-    c.output_number.ensures
-    (ack_received i o c.output_number.result.number c.args.input c.args.list s _ (c.reach_input.ensures t))
+    c.numbered-output.ensures
+    (ack_received i o c.numbered-output.result.number c.args.input c.args.list s _ (c.reach_input.ensures t))

@@ -11,7 +11,7 @@ reach_output-requires g c =
     let f = fits_read (frame_of c.args.self.now).counts c.args.operation c.args.output c.args.object c.requires.fits in
     record {
       inside = omega (arith, f.0, c.args.self.now.output_count.inside);
-      taken = read_taken (g.I.QuorumSystem.meaning c.args.inputs.now) c.args.output c.args.operation c.object_number.result.number
+      taken = read_taken (g.I.QuorumSystem.meaning c.args.inputs.now) c.args.output c.args.operation c.numbered-object.result.number
           (state_of c.args.self.now c.args.log.now []) (omega (arith, c.requires.counted, c.args.self.now.input_count.inside)) c.requires.ready.room;
     }
 
@@ -20,6 +20,6 @@ returns g c = λ o t.
     let q = g.I.QuorumSystem.meaning c.args.inputs.now in
     let s = state_of c.args.self.now c.args.log.now t in
     subst (λ (b : ℕ). receives q o (ReadRequest c.args.operation c.args.output b) s ≡ quiet (state_of c.reach_output.new.self c.reach_output.new.log t))
-    c.object_number.ensures
-    (read_received q o c.args.operation c.args.output c.object_number.result.number s _ c.requires.counted
+    c.numbered-object.ensures
+    (read_received q o c.args.operation c.args.output c.numbered-object.result.number s _ c.requires.counted
     (omega (arith, c.requires.counted, c.args.self.now.input_count.inside)) c.requires.ready.room (c.reach_output.ensures t))

@@ -6,8 +6,8 @@ use Rattle.field.specs.Views.{frame_of, state_of}
 use Rattle.field.proofs.Received.{write_taken, write_received}
 use Rattle.field.proofs.interior.Interior.take_write_request.Goals as goal
 
-pub object_number-requires : goal.object_number-requires
-object_number-requires c =
+pub numbered-object-requires : goal.numbered-object-requires
+numbered-object-requires c =
     let f = fits_request (frame_of c.args.self.now).counts c.args.operation c.args.input c.args.object c.args.version c.args.value c.requires.fits in
     omega (arith, f.object, c.requires.ready.objects)
 
@@ -17,7 +17,7 @@ reach_input-requires c =
     let h = c.args.self.now.output_count.inside in
     record {
       inside = omega (arith, f.receiver, c.args.self.now.input_count.inside);
-      taken = write_taken c.args.input c.args.operation c.object_number.result.number c.args.version c.args.value
+      taken = write_taken c.args.input c.args.operation c.numbered-object.result.number c.args.version c.args.value
           (state_of c.args.self.now c.args.log.now []) c.requires.ready.room
           (λ j l. c.requires.ready.epochs c.args.input j (omega (arith, f.receiver, c.args.self.now.input_count.inside)) (omega arith));
     }
@@ -28,6 +28,6 @@ returns c = λ i o t.
     let f = fits_request (frame_of c.args.self.now).counts c.args.operation c.args.input c.args.object c.args.version c.args.value c.requires.fits in
     let h = c.args.self.now.output_count.inside in
     subst (λ (b : ℕ). receives i o (WriteRequest c.args.operation c.args.input b c.args.version c.args.value) s
-    ≡ quiet (state_of c.reach_input.new.self c.reach_input.new.log t)) c.object_number.ensures
-    (write_received i o c.args.operation c.args.input c.object_number.result.number c.args.version c.args.value s _ c.requires.ready.room
+    ≡ quiet (state_of c.reach_input.new.self c.reach_input.new.log t)) c.numbered-object.ensures
+    (write_received i o c.args.operation c.args.input c.numbered-object.result.number c.args.version c.args.value s _ c.requires.ready.room
     (λ j l. c.requires.ready.epochs c.args.input j (omega (arith, f.receiver, c.args.self.now.input_count.inside)) (omega arith)) (c.reach_input.ensures t))

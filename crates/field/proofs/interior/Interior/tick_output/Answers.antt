@@ -6,5 +6,5 @@ use Rattle.field.proofs.interior.Interior.tick_output.Goals as goal
 pub unwrap-requires : goal.unwrap-requires
 unwrap-requires c =
     is_taken _ _ _ (c.change.ensures.says
-    ∙ output_ticks c.args.increment c.args.output c.output_number.result.number c.new.result.made c.new.result.messages.now (outputs_of c.args.self.now.outputs)
-    c.output_number.ensures (c.requires.stays [] []))
+    ∙ output_ticks c.args.increment c.args.output c.numbered.result.number c.new.result.made c.new.result.messages.now (outputs_of c.args.self.now.outputs)
+    c.numbered.ensures (c.requires.stays [] []))
