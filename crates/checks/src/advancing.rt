@@ -1,24 +1,9 @@
-// The tests of an advance.
-ghost use Rattle.std.specs.Prelude.{◌≡◌, true, ◌+◌, nat_le};
+// The tests of an advance that look at clocks and increments.
+ghost use Rattle.std.specs.Prelude.{◌≡◌, ◌+◌, nat_le};
 ghost use Rattle.numbers.specs.Numbers.{last_time};
 ghost use Rattle.rules.specs.Calls.{keeps_with, keeps_drift};
-ghost use Rattle.checks.specs.Refused.{refusal_said, advancing_refusal};
 
 use numbers::{Drift, Time};
-use quorum::Refusal;
-
-// The first refusal that an advance of an open field meets before it looks at the clocks.
-pub fn check_advance(as_opened: bool, increments: usize, servers: usize) -> Result<(), Refusal>
-    ensures { refusal_said result ≡ advancing_refusal true as_opened increments servers }
-{
-    if !as_opened {
-        return Err(Refusal::NotAsOpened);
-    }
-    if increments != servers {
-        return Err(Refusal::IncrementCount);
-    }
-    Ok(())
-}
 
 // Whether a clock that is so much later can still be shown.
 pub fn stays(clock: Time, increment: u64) -> bool

@@ -1,12 +1,9 @@
-// The tests of a field's calls, on plain values: which refusal a call meets first.
+// Tests of a field's calls, on plain values: which refusal an opening meets first, and what an advance
+// asks of clocks and increments.
 #![tactic(auto)]
 
 mod advancing;
-mod beginning;
-mod delivering;
 mod opening;
 
-pub use advancing::{check_advance, keeps_drift, stays};
-pub use beginning::check_beginning;
-pub use delivering::check_delivery;
+pub use advancing::{keeps_drift, stays};
 pub use opening::{Opening, check_opening};

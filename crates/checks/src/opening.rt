@@ -1,5 +1,5 @@
 // The tests of an opening.
-ghost use Rattle.std.specs.Prelude.{◌≡◌};
+ghost use Rattle.std.specs.Prelude.{◌≡◌, false};
 ghost use Rattle.rules.specs.Calls.{clocks_fit};
 ghost use Rattle.checks.specs.Refused.{refusal_said, opening_refusal};
 
@@ -22,9 +22,8 @@ fn clocks_fit(clocks: &[Time]) -> bool
     clocks.iter().all(|clock| *clock <= Time::LAST)
 }
 
-// The first refusal that an opening meets.
+// The first refusal that an opening of a field meets that is not open.
 pub fn check_opening(
-    is_open: bool,
     n: u8,
     m: u8,
     opening: Opening,
@@ -32,11 +31,8 @@ pub fn check_opening(
     log_len: usize,
     table_len: usize,
 ) -> Result<(), Refusal>
-    ensures { refusal_said result ≡ opening_refusal is_open n m opening.objects opening.lease opening.drift clocks.now log_len table_len }
+    ensures { refusal_said result ≡ opening_refusal false n m opening.objects opening.lease opening.drift clocks.now log_len table_len }
 {
-    if is_open {
-        return Err(Refusal::AlreadyOpen);
-    }
     if n > 8 || m > 8 {
         return Err(Refusal::TooManyMembers);
     }

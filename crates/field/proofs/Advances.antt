@@ -1,111 +1,95 @@
 -- Advancing: what its tests say, and what it leaves.
-use Rattle.std.proofs.Common.{◌≡◌, ℕ, zero, suc, ◌+◌, ◌<◌, ◌≤◌, Bool, true, false, cond, not, ◌&&◌, eqb, leb, List, length, get_or, Ok, Err, Result, IsOk, sym, refl, ap, ◌∙◌, subst, add-one, arith}
-use Rattle.std.proofs.lemmas.List.{get_or-set_other}
-use Rattle.std.proofs.lemmas.Bool.{and_parts, cond-true, not-false, eqb-true, eqb-false}
+use Rattle.std.proofs.Common.{◌≡◌, ℕ, zero, suc, ◌+◌, ◌<◌, ◌≤◌, Bool, true, false, cond, not, ◌&&◌, eqb, leb, List, length, take, drop, get_or, sym, refl, ap, ◌∙◌, arith}
+use Rattle.std.proofs.lemmas.List.{get_or-take, get_or-drop, length-take-le, length-drop}
+use Rattle.std.proofs.lemmas.Bool.{not-false, eqb-true}
 use Rattle.quorum.specs.declared.refusal.Refusal.{Refusal}
 use Rattle.quorum.specs.Refusals.{number_of}
+use Rattle.quorum.specs.Sets.{all_below}
 use Rattle.quorum.specs.Systems.{System}
 use Rattle.numbers.specs.Numbers.{last_time}
 use Rattle.rules.specs.Calls.{inputs_stay, outputs_stay, keeps_drift, later_inputs, later_outputs, advanced, advancing}
 use Rattle.rules.specs.Input.{Input, later_input}
 use Rattle.rules.specs.Output.{Output, later_output}
-use Rattle.guarantee.proofs.CallSteps.{inputs_only}
-use Rattle.rules.specs.State.{Frame, State, accepted, Outcome, outcome, refuse, no_input, no_output, input_at, output_at, with_input, with_output}
-use Rattle.rules.specs.declared.message.Message.{Message}
-use Rattle.rules.specs.Steps.{Step, step_says, made_now}
-use Rattle.servers.specs.Events.{input_tick, output_tick}
+use Rattle.rules.specs.State.{State, accepted, Outcome, outcome, refuse, no_input, no_output, input_at, output_at, with_input, with_output}
 use Rattle.field.specs.Checked.{advance_check}
+use Rattle.field.specs.Sides.{all_stay, all_later}
 use Rattle.field.proofs.Calling.{later_tests, later_passed}
 use Rattle.field.proofs.Refusing.{decide, refuses_first, passes_first, call_refuses, call_passes}
 
--- ---- one clock
+-- ---- the clocks that would move
 
--- a clock that stays within the last time is not refused
-pub input_ticks : (increment i j made : ℕ) (log : List Message) (ins : List Input) → j ≡ i → leb ((get_or ins i no_input).clock.0 + increment) last_time ≡ true
-    → (input_tick increment (get_or ins j no_input) made log).said ≡ made_now made
-input_ticks increment i j made log ins same stays =
-    ap (λ (k : ℕ). (input_tick increment (get_or ins k no_input) made log).said) same
-    ∙ ap (λ (x : Step Input). x.said) (cond-true (leb ((get_or ins i no_input).clock.0 + increment) last_time) _ _ stays)
+-- two tests that agree below n
+all_below_as : (n : ℕ) (f g : ℕ → Bool) → ((i : ℕ) → i < n → f i ≡ g i) → all_below n f ≡ all_below n g
+all_below_as zero f g h = refl
+all_below_as (suc n) f g h =
+    ap (λ (b : Bool). b && f n) (all_below_as n f g (λ i l. h i (omega arith))) ∙ ap (λ (b : Bool). all_below n g && b) (h n (omega arith))
 
-pub output_ticks : (increment i j made : ℕ) (log : List Message) (outs : List Output) → j ≡ i → leb ((get_or outs i no_output).clock.0 + increment) last_time ≡ true
-    → (output_tick increment (get_or outs j no_output) made log).said ≡ made_now made
-output_ticks increment i j made log outs same stays =
-    ap (λ (k : ℕ). (output_tick increment (get_or outs k no_output) made log).said) same
-    ∙ ap (λ (x : Step Output). x.said) (cond-true (leb ((get_or outs i no_output).clock.0 + increment) last_time) _ _ stays)
+-- the increments of the input servers come first
+inputs_may : (xs : List ℕ) (n : ℕ) (s : State) → n ≤ length xs
+    → all_stay (λ (I : Input). I.clock) no_input (take n xs) s.inputs ≡ inputs_stay xs n s
+inputs_may xs n s h =
+    let may = λ (ys : List ℕ) (i : ℕ). leb ((input_at s i).clock.0 + get_or ys i 0) last_time in
+    ap (λ (k : ℕ). all_below k (may (take n xs))) (length-take-le n xs h)
+    ∙ all_below_as n (may (take n xs)) (may xs) (λ i l. ap (λ (x : ℕ). leb ((input_at s i).clock.0 + x) last_time) (get_or-take n xs i 0 l))
 
-pub is_taken : (r : Result (Unit {0}) Refusal) (made k : ℕ) → step_says made r ≡ made_now k → IsOk r
-is_taken (Ok u) made k e = refl
-is_taken (Err x) made k e = let z : ◌≡◌ {A = ℕ} 0 1 = cc in absurd (omega arith)
+-- those of the output servers come after them
+outputs_may : (xs : List ℕ) (s : State) → length xs ≡ s.frame.counts.n + s.frame.counts.m
+    → all_stay (λ (O : Output). O.clock) no_output (drop s.frame.counts.n xs) s.outputs ≡ outputs_stay xs s.frame.counts.m s
+outputs_may xs s h =
+    let n = s.frame.counts.n in
+    let may = λ (j x : ℕ). leb ((output_at s j).clock.0 + x) last_time in
+    let l : length (drop n xs) ≡ s.frame.counts.m = omega (arith, length-drop n xs, h) in
+    ap (λ (k : ℕ). all_below k (λ j. may j (get_or (drop n xs) j 0))) l
+    ∙ all_below_as s.frame.counts.m (λ j. may j (get_or (drop n xs) j 0)) (λ j. may j (get_or xs (n + j) 0)) (λ j _. ap (may j) (get_or-drop n xs j 0))
 
--- ---- all clocks: what stays to be moved
+-- ---- the clocks that have moved
 
-pub input_waits : (xs : List ℕ) (c k : ℕ) (s : State) → c ≤ k → input_at (later_inputs xs c s) k ≡ input_at s k
-input_waits xs zero k s h = refl
-input_waits xs (suc c) k s h =
-    get_or-set_other (later_inputs xs c s).inputs c k _ no_input (omega arith) ∙ input_waits xs c k s (omega arith)
+abbrev with_inputs : List Input → State → State
+with_inputs ins s = record { frame = s.frame; made = s.made; begun = s.begun; inputs = ins; outputs = s.outputs; log = s.log; table = s.table }
 
-pub output_waits : (xs : List ℕ) (from c k : ℕ) (s : State) → c ≤ k → output_at (later_outputs xs from c s) k ≡ output_at s k
-output_waits xs from zero k s h = refl
-output_waits xs from (suc c) k s h =
-    get_or-set_other (later_outputs xs from c s).outputs c k _ no_output (omega arith) ∙ output_waits xs from c k s (omega arith)
+abbrev with_outputs : List Output → State → State
+with_outputs outs s = record { frame = s.frame; made = s.made; begun = s.begun; inputs = s.inputs; outputs = outs; log = s.log; table = s.table }
 
--- what holds of the last of n + 1 and of those before holds of each
-below_or_last : (P : ℕ → Type 0) (n i : ℕ) → i < suc n → (i < n → P i) → P n → P i
-below_or_last P n i h a b = last (eqb i n) refl
-  where
-    last : (q : Bool) → eqb i n ≡ q → P i
-    last true e = subst P (sym (eqb-true i n e)) b
-    last false e = a (let z : i ≡ n → ⊥ = eqb-false i n e in grind arith)
+inputs_moved : (xs ys : List ℕ) (c : ℕ) (s : State) → ((i : ℕ) → i < c → get_or ys i 0 ≡ get_or xs i 0)
+    → with_inputs (all_later later_input no_input ys c s.inputs) s ≡ later_inputs xs c s
+inputs_moved xs ys zero s h = refl
+inputs_moved xs ys (suc c) s h =
+    ap (λ (z : State). with_input c (later_input (get_or ys c 0) (input_at z c)) z) (inputs_moved xs ys c s (λ i l. h i (omega arith)))
+    ∙ ap (λ (x : ℕ). with_input c (later_input x (input_at (later_inputs xs c s) c)) (later_inputs xs c s)) (h c (omega arith))
 
-input_stays : (xs : List ℕ) (n i : ℕ) (s : State) → i < n → inputs_stay xs n s ≡ true → leb ((input_at s i).clock.0 + get_or xs i 0) last_time ≡ true
-input_stays xs zero i s h e = absurd (omega arith)
-input_stays xs (suc n) i s h e =
-    let p = and_parts (inputs_stay xs n s) (leb ((input_at s n).clock.0 + get_or xs n 0) last_time) e in
-    below_or_last (λ k. leb ((input_at s k).clock.0 + get_or xs k 0) last_time ≡ true) n i h (λ l. input_stays xs n i s l p.0) p.1
+outputs_moved : (xs ys : List ℕ) (n c : ℕ) (s : State) → ((j : ℕ) → j < c → get_or ys j 0 ≡ get_or xs (n + j) 0)
+    → with_outputs (all_later later_output no_output ys c s.outputs) s ≡ later_outputs xs n c s
+outputs_moved xs ys n zero s h = refl
+outputs_moved xs ys n (suc c) s h =
+    ap (λ (z : State). with_output c (later_output (get_or ys c 0) (output_at z c)) z) (outputs_moved xs ys n c s (λ j l. h j (omega arith)))
+    ∙ ap (λ (x : ℕ). with_output c (later_output x (output_at (later_outputs xs n c s) c)) (later_outputs xs n c s)) (h c (omega arith))
 
-output_stays : (xs : List ℕ) (m j : ℕ) (s : State) → j < m → outputs_stay xs m s ≡ true → leb ((output_at s j).clock.0 + get_or xs (s.frame.counts.n + j) 0) last_time ≡ true
-output_stays xs zero j s h e = absurd (omega arith)
-output_stays xs (suc m) j s h e =
-    let p = and_parts (outputs_stay xs m s) (leb ((output_at s m).clock.0 + get_or xs (s.frame.counts.n + m) 0) last_time) e in
-    below_or_last (λ k. leb ((output_at s k).clock.0 + get_or xs (s.frame.counts.n + k) 0) last_time ≡ true) m j h (λ l. output_stays xs m j s l p.0) p.1
+-- ---- both sides, with the increments as they are cut
 
--- the next clock can move
-pub input_may_tick : (xs : List ℕ) (n i : ℕ) (s s1 : State) → s1 ≡ later_inputs xs i s → i < n → inputs_stay xs n s ≡ true
-    → leb ((input_at s1 i).clock.0 + get_or xs i 0) last_time ≡ true
-input_may_tick xs n i s s1 e h stay =
-    let a : input_at s1 i ≡ input_at s i = ap (λ (z : State). input_at z i) e ∙ input_waits xs i i s (omega arith) in
-    ap (λ (I : Input). leb (I.clock.0 + get_or xs i 0) last_time) a ∙ input_stays xs n i s h stay
+module _ (xs front back : List ℕ) (s : State) (h : length xs ≡ s.frame.counts.n + s.frame.counts.m)
+    (a : front ≡ take s.frame.counts.n xs) (b : back ≡ drop s.frame.counts.n xs) where
+  pub front_may : all_stay (λ (I : Input). I.clock) no_input front s.inputs ≡ inputs_stay xs s.frame.counts.n s
+  front_may = ap (λ (l : List ℕ). all_stay (λ (I : Input). I.clock) no_input l s.inputs) a ∙ inputs_may xs s.frame.counts.n s (omega (arith, h))
 
-pub output_may_tick : (xs : List ℕ) (n m j : ℕ) (s s1 : State) → n ≡ s.frame.counts.n → s1 ≡ later_outputs xs n j s → j < m → outputs_stay xs m s ≡ true
-    → leb ((output_at s1 j).clock.0 + get_or xs (n + j) 0) last_time ≡ true
-output_may_tick xs n m j s s1 same e h stay =
-    let a : output_at s1 j ≡ output_at s j = ap (λ (z : State). output_at z j) e ∙ output_waits xs n j j s (omega arith) in
-    ap (λ (O : Output). leb (O.clock.0 + get_or xs (n + j) 0) last_time) a
-    ∙ ap (λ (k : ℕ). leb ((output_at s j).clock.0 + get_or xs (k + j) 0) last_time) same ∙ output_stays xs m j s h stay
+  pub back_may : all_stay (λ (O : Output). O.clock) no_output back s.outputs ≡ outputs_stay xs s.frame.counts.m s
+  back_may = ap (λ (l : List ℕ). all_stay (λ (O : Output). O.clock) no_output l s.outputs) b ∙ outputs_may xs s h
 
--- one clock more has moved
-pub input_moved : (xs : List ℕ) (i : ℕ) (s s1 s2 : State) → s1 ≡ later_inputs xs i s
-    → s2 ≡ with_input i (later_input (get_or xs i 0) (input_at s1 i)) s1 → s2 ≡ later_inputs xs (i + 1) s
-input_moved xs i s s1 s2 e f =
-    f ∙ ap (λ (z : State). with_input i (later_input (get_or xs i 0) (input_at z i)) z) e ∙ sym (ap (λ (n : ℕ). later_inputs xs n s) (add-one i))
-
-pub output_moved : (xs : List ℕ) (n j : ℕ) (s s1 s2 : State) → s1 ≡ later_outputs xs n j s
-    → s2 ≡ with_output j (later_output (get_or xs (n + j) 0) (output_at s1 j)) s1 → s2 ≡ later_outputs xs n (j + 1) s
-output_moved xs n j s s1 s2 e f =
-    f ∙ ap (λ (z : State). with_output j (later_output (get_or xs (n + j) 0) (output_at z j)) z) e ∙ sym (ap (λ (m : ℕ). later_outputs xs n m s) (add-one j))
-
--- the output servers do not look at the clocks of the input servers
-outputs_stay_as : (xs : List ℕ) (m : ℕ) (s t : State) → t.outputs ≡ s.outputs → t.frame ≡ s.frame → outputs_stay xs m t ≡ outputs_stay xs m s
-outputs_stay_as xs zero s t a b = refl
-outputs_stay_as xs (suc m) s t a b =
-    ap (λ (q : Bool). q && leb ((output_at t m).clock.0 + get_or xs (t.frame.counts.n + m) 0) last_time) (outputs_stay_as xs m s t a b)
-    ∙ ap (λ (os : List Output). outputs_stay xs m s && leb ((get_or os m no_output).clock.0 + get_or xs (t.frame.counts.n + m) 0) last_time) a
-    ∙ ap (λ (f : Frame). outputs_stay xs m s && leb ((output_at s m).clock.0 + get_or xs (f.counts.n + m) 0) last_time) b
-
-pub outputs_still_stay : (xs : List ℕ) (n m : ℕ) (s t : State) → t ≡ later_inputs xs n s → outputs_stay xs m s ≡ true → outputs_stay xs m t ≡ true
-outputs_still_stay xs n m s t e stay =
-    let only = inputs_only xs n s in
-    ap (λ (z : State). outputs_stay xs m z) e ∙ outputs_stay_as xs m s (later_inputs xs n s) only.outputs only.frame ∙ stay
+  pub all_moved : (ins : List Input) (outs : List Output)
+      → ins ≡ all_later later_input no_input front (length front) s.inputs → outs ≡ all_later later_output no_output back (length back) s.outputs
+      → with_outputs outs (with_inputs ins s) ≡ advanced xs s
+  all_moved ins outs e f =
+      let n = s.frame.counts.n in
+      let m = s.frame.counts.m in
+      let c : length (take n xs) ≡ n = length-take-le n xs (omega (arith, h)) in
+      let d : length (drop n xs) ≡ m = omega (arith, length-drop n xs, h) in
+      ap (λ (l : List Output). with_outputs l (with_inputs ins s))
+      (f ∙ ap (λ (l : List ℕ). all_later later_output no_output l (length l) s.outputs) b
+      ∙ ap (λ (k : ℕ). all_later later_output no_output (drop n xs) k s.outputs) d)
+      ∙ outputs_moved xs (drop n xs) n m (with_inputs ins s) (λ j _. get_or-drop n xs j 0)
+      ∙ ap (λ (l : List Input). later_outputs xs n m (with_inputs l s))
+      (e ∙ ap (λ (l : List ℕ). all_later later_input no_input l (length l) s.inputs) a
+      ∙ ap (λ (k : ℕ). all_later later_input no_input (take n xs) k s.inputs) c)
+      ∙ ap (later_outputs xs n m) (inputs_moved xs (take n xs) n s (λ i l. get_or-take n xs i 0 l))
 
 -- ---- the call
 
@@ -136,6 +120,7 @@ module _ (i o : System) (xs : List ℕ) (s : State) (r : 0 ≡ advance_check i o
   abbrev by_tests : Bool → Bool → Outcome
   by_tests stay keep = cond (not stay) (refuse 12 s) (cond (not keep) (refuse 13 s) (outcome accepted (advanced xs s)))
 
+  -- a clock that would pass the last time is enough
   pub advance_past : false ≡ (inputs_stay xs s.frame.counts.n s && outputs_stay xs s.frame.counts.m s) → advancing i o xs s ≡ refuse 12 s
   advance_past p = passed ∙ sym (ap (λ (x : Bool). by_tests x (keeps_drift s.frame.drift xs)) p)
 
@@ -143,21 +128,8 @@ module _ (i o : System) (xs : List ℕ) (s : State) (r : 0 ≡ advance_check i o
       → advancing i o xs s ≡ refuse 13 s
   advance_drifts p f = passed ∙ sym (ap (λ (x : Bool). by_tests x (keeps_drift s.frame.drift xs)) p) ∙ sym (ap (λ (x : Bool). by_tests true x) f)
 
-  pub advance_done : (t u : State) → true ≡ (inputs_stay xs s.frame.counts.n s && outputs_stay xs s.frame.counts.m s) → true ≡ keeps_drift s.frame.drift xs
-      → t ≡ later_inputs xs s.frame.counts.n s → u ≡ later_outputs xs t.frame.counts.n t.frame.counts.m t
-      → advancing i o xs s ≡ outcome accepted u
-  advance_done t u p f e g =
-      let only = inputs_only xs s.frame.counts.n s in
-      let same : t.frame ≡ s.frame = ap (λ (z : State). z.frame) e ∙ only.frame in
+  pub advance_done : (t : State) → true ≡ (inputs_stay xs s.frame.counts.n s && outputs_stay xs s.frame.counts.m s) → true ≡ keeps_drift s.frame.drift xs
+      → t ≡ advanced xs s → advancing i o xs s ≡ outcome accepted t
+  advance_done t p f e =
       passed ∙ sym (ap (λ (x : Bool). by_tests x (keeps_drift s.frame.drift xs)) p) ∙ sym (ap (λ (x : Bool). by_tests true x) f)
-      ∙ ap (outcome accepted)
-      (sym (ap (λ (z : State). later_outputs xs s.frame.counts.n s.frame.counts.m z) e)
-      ∙ sym (ap (λ (h : Frame). later_outputs xs h.counts.n h.counts.m t) same) ∙ sym g)
-
--- the clocks of both sides
-pub each_stays : (xs : List ℕ) (n m : ℕ) (s : State) → true ≡ (inputs_stay xs n s && outputs_stay xs m s) → (inputs_stay xs n s ≡ true) × (outputs_stay xs m s ≡ true)
-each_stays xs n m s e = and_parts (inputs_stay xs n s) (outputs_stay xs m s) (sym e)
-
--- what the input servers' clocks leave
-pub counts_kept : (xs : List ℕ) (n : ℕ) (s t : State) → t ≡ later_inputs xs n s → t.frame ≡ s.frame
-counts_kept xs n s t e = ap (λ (z : State). z.frame) e ∙ (inputs_only xs n s).frame
+      ∙ ap (outcome accepted) (sym e)

@@ -14,12 +14,10 @@ use Rattle.rules.specs.Operation.{asking, reading, first_asking, first_reading, 
 use Rattle.rules.specs.State.{State, began, outcome, refuse, post}
 use Rattle.operation.specs.declared.table.Operation.{Operation}
 use Rattle.operation.specs.States.{operation_of}
-use Rattle.servers.specs.Views.{inputs_of, outputs_of}
 use Rattle.field.specs.declared.interior.Interior.{Interior}
 use Rattle.field.specs.Checked.{beginning_check}
-use Rattle.checks.specs.Refused.{beginning_refusal}
 use Rattle.field.specs.Sound.{Sound}
-use Rattle.field.specs.Views.{frame_of, state_of}
+use Rattle.field.specs.Views.{inputs_of, outputs_of, frame_of, state_of}
 use Rattle.field.proofs.Calling.{lent_of, later_tests, later_passed}
 use Rattle.field.proofs.Refusing.{decide, refuses_first, passes_first, call_refuses, call_passes}
 use Rattle.field.proofs.Sounds.{numbers_of}
@@ -44,13 +42,6 @@ pub read_refuses : (i o : System) (b : ℕ) (s : State) (e : Refusal) → number
 unfolding beginning_read
 read_refuses i o b s e r =
     call_refuses e _ _ _ s (beginning_is i o b (reading (first_reading (s.begun + 1) b)) (read_requests (s.begun + 1) b s.frame.counts.m) s) r
-
--- over the table itself
-pub checks_table : (i o : System) (b : ℕ) (f : Interior) (log : List Message) (table : List Operation) (as-opened room : Bool)
-    → beginning_refusal true as-opened b f.objects (length table) f.begun room
-    ≡ beginning_refusal true as-opened b f.objects (length (map operation_of table)) f.begun room
-checks_table i o b f log table as-opened room =
-    ap (λ (l : ℕ). beginning_refusal true as-opened b f.objects l f.begun room) (sym (length-map table operation_of))
 
 -- what is known where they pass
 pub record Beginnable (i o : System) (f : Interior) (log : List Message) (table : List Operation) (b : ℕ) : Type 0 where

@@ -11,22 +11,14 @@ use Rattle.rules.specs.State.{State, Outcome, refuse}
 use Rattle.operation.specs.declared.table.Operation.{Operation}
 use Rattle.operation.specs.States.{operation_of}
 use Rattle.field.specs.declared.interior.Interior.{Interior}
-use Rattle.field.specs.Checked.{delivery_check}
+use Rattle.field.specs.Checked.{later_refusal, delivery_check}
 use Rattle.field.specs.Delivered.{numbered, Deliverable}
-use Rattle.checks.specs.Refused.{lent_as_opened, later_refusal}
 use Rattle.field.specs.Sound.{Sound}
 use Rattle.field.specs.Views.{frame_of, state_of}
 use Rattle.field.proofs.Refusing.{decide, refuses_first, refuses_else, passes_first, passes_else, call_refuses, call_passes}
 use Rattle.field.proofs.Sounds.{Numbers, numbers_of, ready_of}
 
 -- ---- what is lent
-
-pub lent_as : (i o : System) (f : Interior) (log : List Message) (table : List Operation) (n m : ℕ) → n ≡ i.count → m ≡ o.count
-    → lent_as_opened (frame_of f) (length log) (length table) n m ≡ as_opened i o (state_of f log table)
-lent_as i o f log table n m p q =
-    ap (λ (a : ℕ). lent_as_opened (frame_of f) (length log) (length table) a m) p
-    ∙ ap (lent_as_opened (frame_of f) (length log) (length table) i.count) q
-    ∙ ap (λ (l : ℕ). lent_as_opened (frame_of f) (length log) l i.count o.count) (sym (length-map table operation_of))
 
 -- what every call but opening has found
 pub record Lent (i o : System) (f : Interior) (log : List Message) (table : List Operation) : Type 0 where

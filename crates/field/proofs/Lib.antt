@@ -4,12 +4,12 @@ pub mod Begins
 pub mod Calling
 pub mod Continued
 pub mod Delivers
+pub mod EachServer
 pub mod Fields
 pub mod Hears
 pub mod Opens
 pub mod Places
 pub mod Posts
-pub mod Reaches
 pub mod Received
 pub mod Refusing
 pub mod Sounds

@@ -15,12 +15,11 @@ use Rattle.rules.specs.State.{State, Outcome, accepted, outcome, refuse}
 use Rattle.operation.specs.declared.table.Operation.{Operation}
 use Rattle.operation.specs.States.{operation_of}
 use Rattle.rules.specs.declared.message.Message.{Message}
-use Rattle.servers.specs.Views.{inputs_of, outputs_of}
-use Rattle.servers.specs.Starting.{shown_as, starts_at, first_inputs, first_outputs}
+use Rattle.field.specs.Sides.{shown_as, starts_at, first_inputs, first_outputs}
 use Rattle.field.specs.declared.interior.Interior.{Interior}
 use Rattle.field.specs.Opened.{OpeningFits, opened_frame}
 use Rattle.field.specs.Unopened.{unopened}
-use Rattle.field.specs.Views.{frame_of, state_of, field_of}
+use Rattle.field.specs.Views.{inputs_of, outputs_of, frame_of, state_of, field_of}
 use Rattle.checks.specs.Refused.{opening_refusal}
 use Rattle.field.proofs.Refusing.{decide, refuses_first, passes_first, call_refuses, call_passes}
 
@@ -140,27 +139,37 @@ tests i o k lease drift clocks f log table = over f
     over None = opening_is i o k lease drift clocks (field_of None log table) ∙ places false (outcome accepted (opened i.count o.count k lease drift clocks (unopened log (map operation_of table)))) (field_of None log table)
     over (Some f) = opening_is i o k lease drift clocks (field_of (Some f) log table) ∙ places true (outcome accepted (opened i.count o.count k lease drift clocks (unopened log (map operation_of table)))) (field_of (Some f) log table)
 
+-- a field that is open is not opened again
+pub open_again : (i o : System) (k lease drift : ℕ) (clocks : List Time) (f : Option Interior) (log : List Message) (table : List Operation)
+    → is_some f ≡ true → opening i o k lease drift clocks (field_of f log table) ≡ refuse 1 (field_of f log table)
+open_again i o k lease drift clocks f log table e =
+    tests i o k lease drift clocks f log table
+    ∙ ap (λ (b : Bool). decide (opening_refusal b i.count o.count k lease drift clocks (length log) (length table))
+    (outcome accepted (opened i.count o.count k lease drift clocks (unopened log (map operation_of table)))) (field_of f log table)) e
+
 pub open_refuses : (i o : System) (k lease drift : ℕ) (clocks : List Time) (f : Option Interior) (log : List Message) (table : List Operation) (n m : ℕ) (e : Refusal)
-    → n ≡ i.count → m ≡ o.count
-    → number_of e ≡ opening_refusal (is_some f) n m k lease drift clocks (length log) (length table)
+    → is_some f ≡ false → n ≡ i.count → m ≡ o.count
+    → number_of e ≡ opening_refusal false n m k lease drift clocks (length log) (length table)
     → opening i o k lease drift clocks (field_of f log table) ≡ refuse (number_of e) (field_of f log table)
-open_refuses i o k lease drift clocks f log table n m e p q r =
+open_refuses i o k lease drift clocks f log table n m e closed p q r =
     let R = λ (a b : ℕ). opening_refusal (is_some f) a b k lease drift clocks (length log) (length table) in
+    let closing = sym (ap (λ (b : Bool). opening_refusal b n m k lease drift clocks (length log) (length table)) closed) in
     call_refuses e _ _ _ (field_of f log table) (tests i o k lease drift clocks f log table)
-    (r ∙ ap (λ (a : ℕ). R a m) p ∙ ap (R i.count) q)
+    (r ∙ closing ∙ ap (λ (a : ℕ). R a m) p ∙ ap (R i.count) q)
 
 pub opens : (i o : System) (k lease drift : ℕ) (clocks : List Time) (f : Option Interior) (log : List Message) (table : List Operation) (g : Interior) (n m : ℕ)
-    → n ≡ i.count → m ≡ o.count
-    → 0 ≡ opening_refusal (is_some f) n m k lease drift clocks (length log) (length table)
+    → is_some f ≡ false → n ≡ i.count → m ≡ o.count
+    → 0 ≡ opening_refusal false n m k lease drift clocks (length log) (length table)
     → frame_of g ≡ opened_frame n m k lease drift (length log) (length table)
     → (g.made ≡ 0) × (g.begun ≡ 0)
     → inputs_of g.inputs ≡ first_inputs (take n clocks) → outputs_of g.outputs ≡ first_outputs (drop n clocks)
     → opening i o k lease drift clocks (field_of f log table) ≡ outcome accepted (state_of g log table)
-opens i o k lease drift clocks f log table g n m p q r frame zeros ins outs =
+opens i o k lease drift clocks f log table g n m closed p q r frame zeros ins outs =
     let s = unopened log (map operation_of table) in
     let R = λ (a b : ℕ). opening_refusal (is_some f) a b k lease drift clocks (length log) (length table) in
-    let fits = opening_fits (is_some f) n m k lease drift clocks (length log) (length table) (sym r) in
-    call_passes _ _ _ (field_of f log table) (tests i o k lease drift clocks f log table) (r ∙ ap (λ (a : ℕ). R a m) p ∙ ap (R i.count) q)
+    let closing = sym (ap (λ (b : Bool). opening_refusal b n m k lease drift clocks (length log) (length table)) closed) in
+    let fits = opening_fits false n m k lease drift clocks (length log) (length table) (sym r) in
+    call_passes _ _ _ (field_of f log table) (tests i o k lease drift clocks f log table) (r ∙ closing ∙ ap (λ (a : ℕ). R a m) p ∙ ap (R i.count) q)
     ∙ ap (λ (a : ℕ). outcome accepted (opened a o.count k lease drift clocks s)) (sym p)
     ∙ ap (λ (b : ℕ). outcome accepted (opened n b k lease drift clocks s)) (sym q)
     ∙ opened_is log table g n m k lease drift clocks fits frame zeros ins outs

@@ -11,11 +11,10 @@ use Rattle.guarantee.specs.Bounds.{Bounded}
 use Rattle.guarantee.specs.Story.{Call, outcome_of}
 use Rattle.guarantee.proofs.Bounds.{bounds_kept}
 use Rattle.operation.specs.declared.table.Operation.{Operation}
-use Rattle.servers.specs.Views.{inputs_of}
 use Rattle.field.specs.declared.interior.Interior.{Interior}
 use Rattle.field.specs.Ready.{Ready}
 use Rattle.field.specs.Sound.{InBounds, Sound}
-use Rattle.field.specs.Views.{state_of, field_of}
+use Rattle.field.specs.Views.{inputs_of, state_of, field_of}
 use Rattle.field.proofs.Refusing.{not_refused}
 
 -- ---- its numbers

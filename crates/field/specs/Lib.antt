@@ -6,7 +6,7 @@ pub mod Looks
 pub mod Opened
 pub mod Ranging
 pub mod Ready
+pub mod Sides
 pub mod Sound
-pub mod Steps
 pub mod Unopened
 pub mod Views

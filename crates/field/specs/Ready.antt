@@ -3,8 +3,8 @@ use Rattle.std.specs.Prelude.{ℕ, ◌+◌, ◌<◌, ◌≤◌, List, length, sl
 use Rattle.rules.specs.declared.message.Message.{Message}
 use Rattle.rules.specs.Input.{ledger}
 use Rattle.rules.specs.State.{no_input}
-use Rattle.servers.specs.Views.{inputs_of}
 use Rattle.field.specs.declared.interior.Interior.{Interior}
+use Rattle.field.specs.Views.{inputs_of}
 
 pub record Ready (f : Interior) (log : List Message) : Type 0 where
   pub objects : f.objects ≤ 16

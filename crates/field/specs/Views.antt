@@ -4,9 +4,20 @@ use Rattle.rules.specs.declared.message.Message.{Message}
 use Rattle.rules.specs.State.{Frame, State}
 use Rattle.operation.specs.declared.table.Operation.{Operation}
 use Rattle.operation.specs.States.{operation_of}
-use Rattle.servers.specs.Views.{inputs_of, outputs_of}
+use Rattle.input_server.specs.declared.server.InputServer.{InputServer}
+use Rattle.input_server.specs.Views.{input_of}
+use Rattle.output_server.specs.declared.server.OutputServer.{OutputServer}
+use Rattle.output_server.specs.Views.{output_of}
+use Rattle.rules.specs.Input.{Input}
+use Rattle.rules.specs.Output.{Output}
 use Rattle.field.specs.declared.interior.Interior.{Interior}
 use Rattle.field.specs.Unopened.{unopened}
+
+abbrev pub inputs_of : List InputServer → List Input
+inputs_of servers = map input_of servers
+
+abbrev pub outputs_of : List OutputServer → List Output
+outputs_of servers = map output_of servers
 
 abbrev pub frame_of : Interior → Frame
 frame_of f = record {

@@ -12,7 +12,6 @@ ghost use Rattle.field.specs.Views.{state_of};
 
 use crate::interior::Interior;
 use crate::logging::{ClockQuestions, ReadRequests};
-use checks::check_beginning;
 use operation::{AskingWrite, Operation, Read};
 use quorum::{QuorumSystem, Refusal, Systems};
 use rules::{Message, has_room};
@@ -63,6 +62,7 @@ impl Interior {
         Ok(operation)
     }
 
+    // The first refusal that a beginning meets.
     fn check_object<I: QuorumSystem, O: QuorumSystem>(
         &self,
         log: &[Message],
@@ -72,17 +72,19 @@ impl Interior {
     ) -> Result<(), Refusal>
         ensures { refusal_said result ≡ beginning_check (I.QuorumSystem.meaning systems.now.inputs) (O.QuorumSystem.meaning systems.now.outputs) object (state_of self.now log.now table.now) }
     {
-        let (n, m) = (systems.inputs.count(), systems.outputs.count());
-        let as_opened = self.is_as_opened(log.len(), table.len(), n, m);
-        let room = has_room(log, self.made);
-        check_beginning(
-            as_opened,
-            object,
-            self.objects,
-            table.len(),
-            self.begun,
-            room,
-        )
+        if !self.is_as_opened(log, table, systems) {
+            return Err(Refusal::NotAsOpened);
+        }
+        if object >= u64::from(self.objects) {
+            return Err(Refusal::NoSuchObject);
+        }
+        if usize::from(self.begun) >= table.len() {
+            return Err(Refusal::TableFull);
+        }
+        if !has_room(log, self.made) {
+            return Err(Refusal::NoRoomToBegin);
+        }
+        Ok(())
     }
 
     // The operation takes the next place of the table.

@@ -34,9 +34,11 @@ impl Field {
         ensures same { is_ok result ≡ false → self.new ≡ self.old }
         ensures guaranteed { Guaranteed (I.QuorumSystem.meaning systems.now.inputs) (O.QuorumSystem.meaning systems.now.outputs) (to_open opening.objects opening.lease opening.drift clocks.now) (field_of self.old.interior log.now table.now) (acceptance result) (field_of self.new.interior log.now table.now) }
     {
+        if self.interior.is_some() {
+            return Err(Refusal::AlreadyOpen);
+        }
         let (n, m) = (systems.inputs.count(), systems.outputs.count());
-        let is_open = self.interior.is_some();
-        check_opening(is_open, n, m, opening, clocks, log.len(), table.len())?;
+        check_opening(n, m, opening, clocks, log.len(), table.len())?;
         let interior = Interior::new(n, m, opening, clocks, log.len(), table.len());
         self.interior = Some(interior);
         Ok(())

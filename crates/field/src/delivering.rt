@@ -1,21 +1,16 @@
 // Delivering a message.
-ghost use Rattle.std.specs.Prelude.{Some, ◌≡◌, ◌≤◌, true, false, List, length, is_ok};
-ghost use Rattle.operation.specs.declared.table.Operation.{Operation as Place};
-ghost use Rattle.quorum.specs.Systems.{System};
+ghost use Rattle.std.specs.Prelude.{Some, ◌≡◌, false, is_ok};
 ghost use Rattle.rules.specs.Answers.{end_of, delivery_says};
-ghost use Rattle.rules.specs.Calls.{receives, quiet, delivering};
-ghost use Rattle.rules.specs.Ranges.{numbers_fit};
+ghost use Rattle.rules.specs.Calls.{receives, delivering};
 ghost use Rattle.rules.specs.State.{outcome};
 ghost use Rattle.field.specs.Checked.{delivery_check};
-ghost use Rattle.field.specs.Delivered.{numbered, Deliverable, for_server};
-ghost use Rattle.field.specs.Ready.{Ready};
+ghost use Rattle.field.specs.Delivered.{numbered, Deliverable};
 ghost use Rattle.checks.specs.Refused.{refusal_said};
 ghost use Rattle.field.specs.Sound.{Sound};
-ghost use Rattle.field.specs.Views.{frame_of, state_of};
+ghost use Rattle.field.specs.Views.{state_of};
 
 use crate::hearing::hear;
 use crate::interior::Interior;
-use checks::check_delivery;
 use operation::Operation;
 use quorum::{QuorumSystem, Refusal, Systems};
 use rules::{Delivery, Message, has_room};
@@ -40,6 +35,7 @@ impl Interior {
         Ok(self.receive(log, table, systems, number))
     }
 
+    // The first refusal before it looks at the message.
     fn check_message<I: QuorumSystem, O: QuorumSystem>(
         &self,
         log: &[Message],
@@ -49,10 +45,16 @@ impl Interior {
     ) -> Result<(), Refusal>
         ensures { refusal_said result ≡ delivery_check (I.QuorumSystem.meaning systems.now.inputs) (O.QuorumSystem.meaning systems.now.outputs) number (state_of self.now log.now table.now) }
     {
-        let (n, m) = (systems.inputs.count(), systems.outputs.count());
-        let as_opened = self.is_as_opened(log.len(), table.len(), n, m);
-        let room = has_room(log, self.made);
-        check_delivery(as_opened, number, self.made, room)
+        if !self.is_as_opened(log, table, systems) {
+            return Err(Refusal::NotAsOpened);
+        }
+        if number == 0 || number > self.made {
+            return Err(Refusal::NoSuchMessage);
+        }
+        if !has_room(log, self.made) {
+            return Err(Refusal::NoRoomToDeliver);
+        }
+        Ok(())
     }
 
     // The message is handed to the server or the operation that it is for.
@@ -67,47 +69,14 @@ impl Interior {
         ensures { receives (I.QuorumSystem.meaning systems.now.inputs) (O.QuorumSystem.meaning systems.now.outputs) (numbered log.old number) (state_of self.old log.old table.old) ≡ outcome (end_of result) (state_of self.new log.new table.new) }
     {
         match log[number - 1] {
+            Message::ClockQuestion { operation, input } => {
+                self.take_clock_question(log, operation, input);
+            }
             Message::ClockAnswer {
                 input,
                 operation,
                 clock,
-            } => {
-                self.hear_clock(log, table, systems, input, operation, clock);
-                Delivery::NothingEnded
-            }
-            Message::WriteAnswer { operation, .. } => {
-                hear(table, systems, operation, &log[number - 1])
-            }
-            Message::ReadAnswer { operation, .. } => {
-                hear(table, systems, operation, &log[number - 1])
-            }
-            Message::ReadRequest {
-                operation,
-                output,
-                object,
-            } => {
-                self.take_read_request(log, &systems.inputs, operation, output, object);
-                Delivery::NothingEnded
-            }
-            _ => {
-                self.serve(log, number);
-                Delivery::NothingEnded
-            }
-        }
-    }
-
-    // The message is handed to the server that it is for.
-    fn serve(&mut self, log: &mut [Message], number: usize)
-        requires ready { Ready self.old log.old }
-        requires number { (1 ≤ number) × (number ≤ length log.old) }
-        requires fits { numbers_fit (frame_of self.old).counts (numbered log.old number) ≡ true }
-        requires kind { for_server (numbered log.old number) ≡ true }
-        ensures { (i o : System) (t : List Place) → receives i o (numbered log.old number) (state_of self.old log.old t) ≡ quiet (state_of self.new log.new t) }
-    {
-        match log[number - 1] {
-            Message::ClockQuestion { operation, input } => {
-                self.take_clock_question(log, operation, input);
-            }
+            } => self.hear_clock(log, table, systems, input, operation, clock),
             Message::WriteRequest {
                 operation,
                 input,
@@ -115,6 +84,17 @@ impl Interior {
                 version,
                 value,
             } => self.take_write_request(log, operation, input, object, version, value),
+            Message::WriteAnswer { operation, .. } => {
+                return hear(table, systems, operation, &log[number - 1]);
+            }
+            Message::ReadRequest {
+                operation,
+                output,
+                object,
+            } => self.take_read_request(log, &systems.inputs, operation, output, object),
+            Message::ReadAnswer { operation, .. } => {
+                return hear(table, systems, operation, &log[number - 1]);
+            }
             Message::RenewalRequest {
                 output,
                 input,
@@ -146,8 +126,8 @@ impl Interior {
                 output,
                 input,
                 list,
-            } => self.take_invalidation_answer(log, output, input, list),
-            _ => unreachable!(),
+            } => self.take_invalidation_answer(output, input, list),
         }
+        Delivery::NothingEnded
     }
 }

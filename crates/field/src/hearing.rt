@@ -1,4 +1,5 @@
-// What the operations in the table do with answers.
+// What the operations in the table do with answers. That nine places are free is asked and not kept
+// in a value: the log is lent anew with each call.
 ghost use Rattle.std.specs.Prelude.{◌≡◌, ◌+◌, ◌-◌, ◌<◌, ◌≤◌, List, map, length, slice_set};
 ghost use Rattle.operation.specs.declared.table.Operation.{Operation as Place};
 ghost use Rattle.operation.specs.Alone.{asks_after, sends_after, reads_after};
@@ -58,10 +59,7 @@ impl Interior {
     {
         match before {
             Operation::Asking(write) => self.ask_on(write, message, log, systems),
-            Operation::Unused => Operation::Unused,
-            Operation::Sending(write) => Operation::Sending(write),
-            Operation::Reading(read) => Operation::Reading(read),
-            Operation::Ended => Operation::Ended,
+            other => other,
         }
     }
 
@@ -108,7 +106,7 @@ pub(crate) fn hear<I: QuorumSystem, O: QuorumSystem>(
     delivery
 }
 
-// A sending write is handed an answer.
+// A sending write is handed an answer. It ends as a write, which is said apart from a read.
 fn send_on<I: QuorumSystem, O: QuorumSystem>(
     write: SendingWrite,
     message: &Message,
@@ -166,8 +164,6 @@ fn hear_on<I: QuorumSystem, O: QuorumSystem>(
     match before {
         Operation::Sending(write) => send_on(write, message, systems),
         Operation::Reading(read) => read_on(read, message, systems),
-        Operation::Asking(write) => (Operation::Asking(write), Delivery::NothingEnded),
-        Operation::Unused => (Operation::Unused, Delivery::NothingEnded),
-        Operation::Ended => (Operation::Ended, Delivery::NothingEnded),
+        other => (other, Delivery::NothingEnded),
     }
 }

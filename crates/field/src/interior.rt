@@ -1,7 +1,10 @@
+use crate::sides::SERVERS;
+use input_server::InputServer;
 use numbers::{Drift, LeaseLength, ServerCount};
-use servers::{InputServers, OutputServers};
+use output_server::OutputServer;
 
-// What an open field keeps. The ranges of these numbers stand in the field around it.
+// What an open field keeps. The ranges of these numbers stand in the field around it, since a call
+// changes one after the other and keeps them as a whole; a step asks for those that it needs.
 #[derive(Drop)]
 pub(crate) struct Interior {
     // what opening fixes
@@ -15,6 +18,7 @@ pub(crate) struct Interior {
     // messages made, operations begun
     pub(crate) made: usize,
     pub(crate) begun: u16,
-    pub(crate) inputs: InputServers,
-    pub(crate) outputs: OutputServers,
+    // both sides, each server at the place of its number
+    pub(crate) inputs: [InputServer; SERVERS],
+    pub(crate) outputs: [OutputServer; SERVERS],
 }

@@ -1,18 +1,26 @@
-// What every call but opening is lent, and tests that need no look at a message.
+// What every call but opening is lent.
 ghost use Rattle.std.specs.Prelude.{◌≡◌};
-ghost use Rattle.checks.specs.Refused.{lent_as_opened};
-ghost use Rattle.field.specs.Views.{frame_of};
+ghost use Rattle.rules.specs.Calls.{as_opened};
+ghost use Rattle.field.specs.Views.{state_of};
 
 use crate::interior::Interior;
+use operation::Operation;
+use quorum::{QuorumSystem, Systems};
+use rules::Message;
 
 impl Interior {
     // Whether log, table and systems are those of the opening, by their lengths and counts.
-    pub(crate) fn is_as_opened(&self, log_len: usize, table_len: usize, n: u8, m: u8) -> bool
-        ensures { result ≡ lent_as_opened (frame_of self.now) log_len table_len n m }
+    pub(crate) fn is_as_opened<I: QuorumSystem, O: QuorumSystem>(
+        &self,
+        log: &[Message],
+        table: &[Operation],
+        systems: &Systems<I, O>,
+    ) -> bool
+        ensures { result ≡ as_opened (I.QuorumSystem.meaning systems.now.inputs) (O.QuorumSystem.meaning systems.now.outputs) (state_of self.now log.now table.now) }
     {
-        log_len == self.log_len
-            && table_len == self.table_len
-            && n == self.input_count.get()
-            && m == self.output_count.get()
+        log.len() == self.log_len
+            && table.len() == self.table_len
+            && systems.inputs.count() == self.input_count.get()
+            && systems.outputs.count() == self.output_count.get()
     }
 }

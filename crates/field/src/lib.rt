@@ -14,8 +14,8 @@ mod looks;
 mod making;
 mod opening;
 mod ranging;
-mod reaching;
 mod receiving;
+mod sides;
 
 pub use checks::Opening;
 pub use field::Field;

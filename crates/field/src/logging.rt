@@ -1,5 +1,5 @@
 // Messages that go to every server of a side.
-ghost use Rattle.std.specs.Prelude.{◌≡◌, ℕ, ◌+◌, ◌<◌, ◌≤◌, List, [], ◌∷◌, length};
+ghost use Rattle.std.specs.Prelude.{◌≡◌, ℕ, ◌+◌, ◌≤◌, List, [], ◌∷◌, length};
 ghost use Rattle.operation.specs.declared.table.Operation.{Operation as Place};
 ghost use Rattle.operation.specs.declared.sending.SendingWrite.{SendingWrite as Write};
 ghost use Rattle.operation.specs.States.{sending_of};
@@ -12,7 +12,7 @@ ghost use Rattle.field.specs.Views.{state_of};
 use crate::interior::Interior;
 use numbers::ServerCount;
 use operation::SendingWrite;
-use rules::Message;
+use rules::{Log, Message};
 
 // A message for each server of a side.
 pub(crate) trait Requests {
@@ -82,16 +82,11 @@ impl Interior {
         requires { self.old.made + 9 ≤ length log.old }
         ensures { (t : List Place) → state_of self.new log.new t ≡ post (each count.number (λ i. R.message requests.now i ∷ [])) (state_of self.old log.old t) }
     {
+        let mut log = Log::new(log, self.made);
+        // a `for`: after `for_each` a proof knows nothing of the log that its closure writes
         for number in 0..count.get() {
-            self.log_one(log, requests.request(number));
+            log.push(requests.request(number));
         }
-    }
-
-    fn log_one(&mut self, log: &mut [Message], message: Message)
-        requires { self.old.made < length log.old }
-        ensures { (t : List Place) → state_of self.new log.new t ≡ post (message ∷ []) (state_of self.old log.old t) }
-    {
-        log[self.made] = message;
-        self.made += 1;
+        self.made = log.made();
     }
 }

@@ -5,7 +5,8 @@ ghost use Rattle.field.specs.Looks.{of_open, input_clock, output_clock};
 ghost use Rattle.field.specs.Views.{field_of};
 
 use crate::field::Field;
-use numbers::{InputNumber, OutputNumber, Time};
+use crate::sides::clock_at;
+use numbers::Time;
 
 impl Field {
     pub fn is_open(&self) -> bool
@@ -56,11 +57,7 @@ impl Field {
         ensures { result ≡ input_clock (field_of self.now.interior [] []) number }
     {
         let interior = self.interior.as_ref()?;
-        if number >= interior.input_count.get() {
-            return None;
-        }
-        let input = InputNumber::try_from(number).unwrap();
-        Some(interior.inputs.get(input).clock())
+        clock_at(&interior.inputs, interior.input_count, number)
     }
 
     // The clock of the output server with that number, if there is one.
@@ -68,10 +65,6 @@ impl Field {
         ensures { result ≡ output_clock (field_of self.now.interior [] []) number }
     {
         let interior = self.interior.as_ref()?;
-        if number >= interior.output_count.get() {
-            return None;
-        }
-        let output = OutputNumber::try_from(number).unwrap();
-        Some(interior.outputs.get(output).clock())
+        clock_at(&interior.outputs, interior.output_count, number)
     }
 }

@@ -1,14 +1,13 @@
 // What an opening makes.
 ghost use Rattle.std.specs.Prelude.{◌≡◌, take, drop};
-ghost use Rattle.servers.specs.Starting.{first_inputs, first_outputs};
-ghost use Rattle.servers.specs.Views.{inputs_of, outputs_of};
 ghost use Rattle.field.specs.Opened.{OpeningFits, opened_frame};
-ghost use Rattle.field.specs.Views.{frame_of};
+ghost use Rattle.field.specs.Sides.{first_inputs, first_outputs};
+ghost use Rattle.field.specs.Views.{inputs_of, outputs_of, frame_of};
 
 use crate::interior::Interior;
+use crate::sides::start;
 use checks::Opening;
 use numbers::{Drift, LeaseLength, ServerCount, Time};
-use servers::{InputServers, OutputServers};
 
 impl Interior {
     // Every server begins in its first state, with its start clock.
@@ -36,8 +35,8 @@ impl Interior {
             table_len,
             made: 0,
             begun: 0,
-            inputs: InputServers::new(&clocks[..n as usize]),
-            outputs: OutputServers::new(&clocks[n as usize..]),
+            inputs: start(&clocks[..n as usize]),
+            outputs: start(&clocks[n as usize..]),
         }
     }
 }

@@ -1,5 +1,6 @@
-// Whether a message in the log, and the operation that it names, are in range.
-ghost use Rattle.std.specs.Prelude.{◌≡◌, ◌≤◌, ◌&&◌, List, length};
+// Whether a message in the log, and the operation that it names, are in range. That the operations
+// begun lie in the table is asked and not kept in a value: the table is lent anew with each call.
+ghost use Rattle.std.specs.Prelude.{◌≡◌, ◌<◌, ◌≤◌, ◌&&◌, List, length};
 ghost use Rattle.operation.specs.Counts.{counts_of};
 ghost use Rattle.rules.specs.declared.message.Message.{Message as AnyMessage};
 ghost use Rattle.numbers.specs.Numbers.{between};
@@ -9,6 +10,7 @@ ghost use Rattle.field.specs.Ranging.{place_of, known_in};
 ghost use Rattle.field.specs.Views.{frame_of, state_of};
 
 use crate::interior::Interior;
+use numbers::{Kind, Number};
 use operation::{Counts, Operation};
 use rules::Message;
 
@@ -84,4 +86,12 @@ fn leaves_room(table: &[Operation], operation: u16) -> bool
     ensures { result ≡ has_room (place_of table.now operation) }
 {
     table[operation as usize - 1].has_room()
+}
+
+// A number that is known to be in the range of its kind.
+pub(crate) fn numbered<K: Kind>(number: u8) -> Number<K>
+    requires { number < K.LIMIT }
+    ensures { result.number ≡ number }
+{
+    Number::try_from(number).unwrap()
 }

@@ -1,22 +1,22 @@
-// What the servers do with messages.
+// What the servers do with messages, a function for each kind: each calls another step, and hands it
+// other numbers of its message. That the field is ready for one message more is asked of each, since
+// the log is lent anew with each call and no value can carry that its places are free.
 ghost use Rattle.std.specs.Prelude.{◌≡◌, true, List};
 ghost use Rattle.operation.specs.declared.table.Operation.{Operation as Place};
 ghost use Rattle.quorum.specs.Systems.{System};
+ghost use Rattle.rules.specs.declared.message.Message.{Message as AnyMessage};
 ghost use Rattle.rules.specs.Calls.{receives, quiet};
 ghost use Rattle.rules.specs.Ranges.{numbers_fit};
 ghost use Rattle.field.specs.Ready.{Ready};
 ghost use Rattle.field.specs.Views.{frame_of, state_of};
 
 use crate::interior::Interior;
-use crate::reaching::numbered;
-use numbers::{Epoch, LeaseLength, Moment, Time, Version};
+use crate::ranging::numbered;
+use input_server::{RenewalRequest, WriteRequest};
+use numbers::{Epoch, InputNumber, LeaseLength, Moment, OutputNumber, Time, Version};
 use output_server::Renewal;
 use quorum::QuorumSystem;
-use rules::{Message, Pairs, Parts};
-use servers::{
-    Acknowledgement, ClockQuestion, Invalidation, ReadRequest, RenewalAnswer, RenewalRequest,
-    WriteRequest,
-};
+use rules::{Log, Message, Pairs, Parts};
 
 impl Interior {
     pub(crate) fn take_clock_question(&mut self, log: &mut [Message], operation: u16, input: u8)
@@ -24,7 +24,12 @@ impl Interior {
         requires fits { numbers_fit (frame_of self.old).counts (Message.ClockQuestion operation input) ≡ true }
         ensures { (i o : System) (t : List Place) → receives i o (Message.ClockQuestion operation input) (state_of self.old log.old t) ≡ quiet (state_of self.new log.new t) }
     {
-        self.reach_input(log, input, ClockQuestion { operation });
+        let me: InputNumber = numbered(input);
+        let mut log = Log::new(log, self.made);
+        self.inputs[me.index()]
+            .answer_clock(me, operation, &mut log)
+            .unwrap();
+        self.made = log.made();
     }
 
     pub(crate) fn take_write_request(
@@ -40,15 +45,19 @@ impl Interior {
         requires fits { numbers_fit (frame_of self.old).counts (Message.WriteRequest operation input object version value) ≡ true }
         ensures { (i o : System) (t : List Place) → receives i o (Message.WriteRequest operation input object version value) (state_of self.old log.old t) ≡ quiet (state_of self.new log.new t) }
     {
-        let object = numbered(object);
+        let me: InputNumber = numbered(input);
         let request = WriteRequest {
             outputs: self.output_count,
             operation,
-            object,
+            object: numbered(object),
             version,
             value,
         };
-        self.reach_input(log, input, request);
+        let mut log = Log::new(log, self.made);
+        self.inputs[me.index()]
+            .take_write(me, &request, &mut log)
+            .unwrap();
+        self.made = log.made();
     }
 
     pub(crate) fn take_renewal_request(
@@ -64,32 +73,27 @@ impl Interior {
         requires fits { numbers_fit (frame_of self.old).counts (Message.RenewalRequest output input parts object stamp) ≡ true }
         ensures { (i o : System) (t : List Place) → receives i o (Message.RenewalRequest output input parts object stamp) (state_of self.old log.old t) ≡ quiet (state_of self.new log.new t) }
     {
-        let output = numbered(output);
-        let object = numbered(object);
+        let me: InputNumber = numbered(input);
         let request = RenewalRequest {
-            output,
+            output: numbered(output),
             parts,
-            object,
+            object: numbered(object),
             stamp,
             lease: self.lease,
         };
-        self.reach_input(log, input, request);
+        let mut log = Log::new(log, self.made);
+        self.inputs[me.index()]
+            .answer_renewal(me, &request, &mut log)
+            .unwrap();
+        self.made = log.made();
     }
 
-    pub(crate) fn take_invalidation_answer(
-        &mut self,
-        log: &mut [Message],
-        output: u8,
-        input: u8,
-        list: Pairs,
-    )
-        requires ready { Ready self.old log.old }
-        requires fits { numbers_fit (frame_of self.old).counts (Message.InvalidationAnswer output input list) ≡ true }
-        ensures { (i o : System) (t : List Place) → receives i o (Message.InvalidationAnswer output input list) (state_of self.old log.old t) ≡ quiet (state_of self.new log.new t) }
+    pub(crate) fn take_invalidation_answer(&mut self, output: u8, input: u8, list: Pairs)
+        requires { numbers_fit (frame_of self.old).counts (Message.InvalidationAnswer output input list) ≡ true }
+        ensures { (i o : System) (log : List AnyMessage) (t : List Place) → receives i o (Message.InvalidationAnswer output input list) (state_of self.old log t) ≡ quiet (state_of self.new log t) }
     {
-        let output = numbered(output);
-        let answer = Acknowledgement { output, list };
-        self.reach_input(log, input, answer);
+        let me: InputNumber = numbered(input);
+        self.inputs[me.index()].take_acknowledgement(numbered(output), list.as_slice());
     }
 
     pub(crate) fn take_read_request<I: QuorumSystem>(
@@ -105,13 +109,12 @@ impl Interior {
         requires fits { numbers_fit (frame_of self.old).counts (Message.ReadRequest operation output object) ≡ true }
         ensures { (o : System) (t : List Place) → receives (I.meaning inputs.now) o (Message.ReadRequest operation output object) (state_of self.old log.old t) ≡ quiet (state_of self.new log.new t) }
     {
-        let object = numbered(object);
-        let request = ReadRequest {
-            inputs,
-            operation,
-            object,
-        };
-        self.reach_output(log, output, request);
+        let me: OutputNumber = numbered(output);
+        let mut log = Log::new(log, self.made);
+        self.outputs[me.index()]
+            .answer_read(me, inputs, operation, numbered(object), &mut log)
+            .unwrap();
+        self.made = log.made();
     }
 
     pub(crate) fn take_invalidation(
@@ -126,14 +129,12 @@ impl Interior {
         requires fits { numbers_fit (frame_of self.old).counts (Message.Invalidation input output object version) ≡ true }
         ensures { (i o : System) (t : List Place) → receives i o (Message.Invalidation input output object version) (state_of self.old log.old t) ≡ quiet (state_of self.new log.new t) }
     {
-        let sender = numbered(input);
-        let object = numbered(object);
-        let invalidation = Invalidation {
-            input: sender,
-            object,
-            version,
-        };
-        self.reach_output(log, output, invalidation);
+        let me: OutputNumber = numbered(output);
+        let mut log = Log::new(log, self.made);
+        self.outputs[me.index()]
+            .take_invalidation(me, numbered(input), numbered(object), version, &mut log)
+            .unwrap();
+        self.made = log.made();
     }
 
     pub(crate) fn take_renewal_answer(
@@ -154,25 +155,21 @@ impl Interior {
         requires fits { numbers_fit (frame_of self.old).counts (Message.RenewalAnswer input output parts object version value epoch stamp length list) ≡ true }
         ensures { (i o : System) (t : List Place) → receives i o (Message.RenewalAnswer input output parts object version value epoch stamp length list) (state_of self.old log.old t) ≡ quiet (state_of self.new log.new t) }
     {
-        let sender = numbered(input);
-        let object = numbered(object);
-        let stamp = Moment::try_from(stamp).unwrap();
-        let length = LeaseLength::try_from(length).unwrap();
+        let me: OutputNumber = numbered(output);
         let renewal = Renewal {
             parts,
-            object,
+            object: numbered(object),
             version,
             value,
             epoch,
-            stamp,
-            length,
+            stamp: Moment::try_from(stamp).unwrap(),
+            length: LeaseLength::try_from(length).unwrap(),
             list,
         };
-        let answer = RenewalAnswer {
-            input: sender,
-            renewal,
-            drift: self.drift,
-        };
-        self.reach_output(log, output, answer);
+        let mut log = Log::new(log, self.made);
+        self.outputs[me.index()]
+            .take_renewal(me, numbered(input), &renewal, self.drift, &mut log)
+            .unwrap();
+        self.made = log.made();
     }
 }

@@ -1,6 +1,7 @@
 -- The rules do something: four stories, each from a field that is not yet open, and what their calls say.
 -- The guarantee speaks of each of them, so what it asks of a story can be met.
--- Calls are numbered from 0, messages and operations from 1.
+-- Calls are numbered from 0, messages and operations from 1. Beside a story's calls, "call 7" is one of these calls, and what asks,
+-- brings or answers by a number, as in "6 asks for a copy", is the message with that number in the story's log.
 use Rattle.std.specs.Prelude.{◌≡◌, ℕ, zero, suc, ◌+◌, ◌*◌, false, List, [], ◌∷◌, ◌++◌, map, length, replicate}
 use Rattle.quorum.specs.Systems.{Lawful, majority, read_one_write_all}
 use Rattle.rules.specs.declared.kept.Ledger.{Ledger}
@@ -79,7 +80,7 @@ write_then_read = record {
   start = unopened 17 2;
   calls =
       to_open 1 1000 10 (zeros 2)
-      -- call 1: a write, with messages 1 to 4
+      -- call 1: a write, which makes the messages 1 to 4 of the log
       ∷ to_write 0 7
       ∷ in_turn 1
       -- call 6: a read. Its request is message 5. The output server has nothing: 6 asks for copy and lease, 7 brings them.
@@ -152,7 +153,7 @@ lease_over = record {
       ∷ deliveries (1 ∷ 2 ∷ 3 ∷ 1 ∷ 4 ∷ [])
       -- call 7: the lease runs out
       ++ to_advance (1000 ∷ 1000 ∷ [])
-      -- call 8: a write, with messages 5 to 8
+      -- call 8: a write, which makes the messages 5 to 8 of the log
       ∷ to_write 0 7
       ∷ in_turn 5
       -- call 13: a read, whose request is message 9. The lease is over: 10 asks for one, 11 brings it with the invalidation that waited,
@@ -196,8 +197,8 @@ records_out = record {
   start = unopened 149 19;
   calls =
       to_open 9 1000 10 (zeros 9)
-      -- call 1: a read of object 0, with requests 1 to 8. For output server 0, 9 asks for copy and lease, 10 brings them,
-      -- 11 answers
+      -- call 1: a read of object 0, whose requests are the messages 1 to 8 of the log. For output server 0, 9 asks for copy
+      -- and lease, 10 brings them, 11 answers
       ∷ to_read 0
       ∷ deliveries (1 ∷ 9 ∷ 10 ∷ 1 ∷ 11 ∷ [])
       -- calls 7, 10, .. 28: a read of each other object, with eight requests. The first goes to output server 0, which asks
@@ -207,7 +208,8 @@ records_out = record {
       ++ to_advance (replicate 9 1000)
       -- calls 32, 37, .. 72: a write of each object, with four messages
       ∷ each 9 (λ o. to_write o 7 ∷ in_turn (92 + 4 * o))
-      -- call 77: a read of object 0, with requests 128 to 135. For output server 0, 136 asks for a lease, 137 brings it
+      -- call 77: a read of object 0, whose requests are the messages 128 to 135 of the log. For output server 0, 136 asks for
+      -- a lease, 137 brings it
       ++ to_read 0
       ∷ deliveries (128 ∷ 136 ∷ 137 ∷ [])
       -- call 81: the request again. 138 asks for a copy, 139 brings it, 140 answers

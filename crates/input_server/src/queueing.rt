@@ -43,6 +43,7 @@ impl InputServer {
         requires { have_epochs self.old.ledgers outputs.number ≡ true }
         ensures { input_of self.new ≡ queues_all object.number outputs.number (input_of self.old) }
     {
+        // a loop: of what a closure changes for `for_each`, a proof knows nothing afterwards
         for number in 0..outputs.get() {
             self.queue_for(number, object);
         }

@@ -47,6 +47,7 @@ impl InputServer {
     }
 
     // Time passes. A clock that would pass the last time stays.
+    // Both kinds of servers share `later`; numbers know no refusals, so each names this one.
     pub fn tick(&mut self, increment: u64) -> Result<(), Refusal>
         ensures does { ticking increment (input_of self.old) ≡ (acceptance result, input_of self.new) }
         ensures same { is_ok result ≡ false → self.new ≡ self.old }

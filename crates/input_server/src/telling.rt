@@ -14,6 +14,7 @@ use rules::{Log, Message};
 impl InputServer {
     // An output server is shut out for an object if it was never given the object, went beyond all
     // that it was given, acknowledged the version held, or has no lease any more.
+    // The number is a plain one, as the ranges below yield it.
     fn is_shut_out(&self, output: u8, object: ObjectNumber) -> bool
         requires { output < 8 }
         ensures { result ≡ is_shut_out (input_of self.now) object.number output }
@@ -46,6 +47,7 @@ impl InputServer {
         requires { log.old.made + 9 ≤ length log.old.messages.now }
         ensures { Logs log.old log.new (invalidations me.number outputs.number object.number (input_of self.now)) }
     {
+        // a loop: of what a closure changes for `for_each`, a proof knows nothing afterwards
         for output in 0..outputs.get() {
             self.tell(me, output, object, log);
         }

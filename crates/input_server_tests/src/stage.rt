@@ -3,7 +3,7 @@ use input_server::{InputServer, RenewalRequest, WriteRequest};
 use numbers::{
     Epoch, InputNumber, LeaseLength, Moment, ObjectNumber, OutputNumber, ServerCount, Time, Version,
 };
-use quorum::{MemberSet, Refusal};
+use quorum::MemberSet;
 use rules::{Log, Message, Pair, Pairs, Parts};
 use std::process::Abort;
 use std::test::*;
@@ -115,14 +115,18 @@ impl Stage {
         Ok(())
     }
 
+    // As the tests of output servers have it: no crate of tests stands on another.
     pub(crate) fn expect(
         &self,
         rt: &impl Abort,
         place: usize,
         message: Message,
     ) -> Result<(), Fail> {
-        let logged = self.log.get(place).ok_or(Refusal::NoSuchMessage)?;
-        assert_eq!(rt; logged, &message, "message {place} of the step");
+        assert_eq!(rt;
+            self.log.get(place),
+            Some(&message),
+            "message {place} of the step"
+        );
         Ok(())
     }
 

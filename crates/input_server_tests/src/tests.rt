@@ -1,4 +1,5 @@
 // Input servers, by example.
+// Tests that read alike differ in their values, which is what each is for.
 use crate::stage::{LEASE, Stage, named, pair};
 use numbers::Version;
 use rules::{Message, Pair, Pairs, Parts};

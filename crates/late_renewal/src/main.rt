@@ -1,5 +1,6 @@
 // One output server that renews from one input server, is invalidated, misses an invalidation and
 // renews late: each step on one line.
+// The parts of the story read alike, since each is a list of its events.
 #![tactic(auto)]
 
 mod stage;

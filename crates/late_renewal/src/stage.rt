@@ -27,6 +27,7 @@ pub(crate) struct Stage {
     object: ObjectNumber,
     lease: LeaseLength,
     drift: Drift,
+    // what each step is lent as a `Log`, which ends with the step: the places, and how many are made
     log: [Message; 32],
     made: usize,
 }
@@ -65,12 +66,10 @@ impl Stage {
 
     // Ends a line with the messages made since so many.
     fn end(&self, rt: &impl Print, before: usize) -> Result<()> {
-        for (place, message) in self.log.iter().enumerate() {
-            if before <= place && place < self.made {
-                let words = Words(message);
-                let number = place as u64 + 1;
-                print!(rt; ", {words} [{number}]")?;
-            }
+        for (place, message) in self.log.iter().enumerate().take(self.made).skip(before) {
+            let words = Words(message);
+            let number = place as u64 + 1;
+            print!(rt; ", {words} [{number}]")?;
         }
         println!(rt)?;
         Ok(())

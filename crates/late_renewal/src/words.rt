@@ -40,6 +40,7 @@ impl fmt::Display for Versions {
 }
 
 // What a renewal answer brings.
+// The fields are those of the message, before any of them is checked: a `Renewal` has checked ones.
 #[derive(Clone, Copy)]
 pub(crate) struct Brought {
     pub(crate) parts: Parts,

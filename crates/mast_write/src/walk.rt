@@ -22,6 +22,7 @@ pub(crate) fn ask<I: QuorumSystem, O: QuorumSystem>(
 }
 
 // The write sends on until it has ended.
+// `ask` and `send` share `walk`, and differ in the step that they take apart.
 pub(crate) fn send<I: QuorumSystem, O: QuorumSystem>(
     rt: &impl Print,
     begun: SendingWrite,

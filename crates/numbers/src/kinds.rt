@@ -1,4 +1,5 @@
 // The kinds of things that are numbered. None of them has a value: a kind only tells types apart.
+// Each `impl` is written out, since one that a macro of ours writes is refused.
 use crate::numbering::{Kind, Number};
 
 // Input servers: 0 to 7.

@@ -20,6 +20,7 @@ pub struct LeaseLength {
 }
 
 // The most by which two clocks may disagree about how much time has passed, in thousandths.
+// Moment, length and drift are of three widths: a generic would want a trait of widths besides.
 #[derive(Clone, Copy, Debug, PartialEq, Eq)]
 pub struct Drift {
     thousandths: u16,
@@ -96,6 +97,7 @@ impl TryFrom<u32> for LeaseLength {
 }
 
 impl LeaseLength {
+    // Named for the unit, which `u32::from` would leave out.
     pub fn micros(self) -> u32
         ensures { result ≡ self.micros }
     {
@@ -118,6 +120,7 @@ impl TryFrom<u16> for Drift {
 }
 
 impl Drift {
+    // Named for the unit, which `u16::from` would leave out.
     pub fn thousandths(self) -> u16
         ensures { result ≡ self.thousandths }
     {

@@ -49,6 +49,7 @@ impl<K: Kind> TryFrom<u8> for Number<K> {
 }
 
 impl<K: Kind> Number<K> {
+    // Named as std's `NonZero::get` is; a `From` would be no plainer.
     pub fn get(self) -> u8
         ensures is { result ≡ self.number }
         ensures inside { result < K.LIMIT }

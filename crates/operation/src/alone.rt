@@ -33,7 +33,7 @@ fn widest<I: QuorumSystem, O: QuorumSystem>(systems: &Systems<I, O>) -> Counts
 pub(crate) trait State: Sized {
     ghost meaning: { Self → Operation };
 
-    // The number of the operation whose state this is.
+    // The number of the operation whose state this is. Each state reads a field of its own for it.
     fn operation(&self) -> u16
         ensures { result ≡ own_number (meaning self.now) };
 

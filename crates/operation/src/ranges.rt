@@ -69,6 +69,7 @@ impl Counts {
                 stamp,
                 ..
             } => self.ends_fit(*input, *output) && *object < self.objects && is_shown(*stamp),
+            // each of its numbers has a range, so each is named
             Message::RenewalAnswer {
                 input,
                 output,

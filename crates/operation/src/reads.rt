@@ -29,6 +29,7 @@ impl Read {
 
     // One message more. A read answer is gathered; once a read set of the output servers has
     // answered, the read has ended and is gone. A refusal hands the read back.
+    // What the three states share of this is `accept`: each gathers another message.
     pub fn answer<I: QuorumSystem, O: QuorumSystem>(
         self,
         message: &Message,

@@ -3,6 +3,7 @@ use quorum::MemberSet;
 
 // A write that sends its version. It knows, for each input server, which output servers that one
 // named as shut out.
+// The rules have no word for the few fields that the three states share, so each has its own.
 #[derive(Drop)]
 pub struct SendingWrite {
     pub(crate) operation: u16,

@@ -19,6 +19,7 @@ use rules::Message;
 impl SendingWrite {
     // One message more. A write answer is gathered; once enough output servers count, the write has
     // ended and is gone. A refusal hands the write back.
+    // What the three states share of this is `accept`: each gathers another message.
     pub fn answer<I: QuorumSystem, O: QuorumSystem>(
         self,
         message: &Message,
@@ -38,7 +39,7 @@ impl SendingWrite {
         }
     }
 
-    // The output servers that one input server named.
+    // The output servers that one input server named. Its number is plain, as the message has it.
     fn hear<I: QuorumSystem, O: QuorumSystem>(
         self,
         input: u8,
@@ -60,6 +61,7 @@ impl SendingWrite {
         }
     }
 
+    // One answer more. Answers come one at a time from outside, so that there is no list to fold.
     fn with_named(mut self, input: u8, set: MemberSet) -> SendingWrite
         requires { input < 8 }
         ensures { sending_of result ≡ hears_named input set (sending_of self) }

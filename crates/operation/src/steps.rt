@@ -3,6 +3,7 @@ use crate::sending::SendingWrite;
 use numbers::Version;
 
 // What becomes of an asking write: it asks on, or it got its version and sends.
+// No ControlFlow, which would say of a write that sends that it breaks off.
 #[derive(Drop)]
 pub enum AskingStep {
     Asking(AskingWrite),
@@ -10,6 +11,7 @@ pub enum AskingStep {
 }
 
 // What becomes of a sending write or a read: it goes on, or it has ended and is gone.
+// No Result: to end is what an operation is there for, and no error.
 #[derive(Drop)]
 pub enum Step<S> {
     On(S),

@@ -1,4 +1,5 @@
 // A write from its first clock answer to its end.
+// Tests that read alike differ in their values, which is what each is for.
 use crate::handing::{Heard, clock, last_of, named, sending, write};
 use numbers::Version;
 use operation::End;

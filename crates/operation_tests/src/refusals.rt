@@ -1,4 +1,5 @@
 // What is refused, and which refusal comes first.
+// Tests that read alike differ in their values, which is what each is for.
 use crate::handing::{Heard, clock, last_of, named, pair, sending, write};
 use numbers::Version;
 use operation::{AskingWrite, Operation, Read};

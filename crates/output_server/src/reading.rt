@@ -41,6 +41,7 @@ impl OutputServer {
             .fold(MemberSet::EMPTY, |set, input| set.with(input))
     }
 
+    // Here and below the number is a plain one, as the ranges yield it.
     fn is_good(&self, input: u8, object: ObjectNumber) -> bool
         requires { input < 8 }
         ensures { result ≡ good (output_of self.now) object.number input }
@@ -74,6 +75,7 @@ impl OutputServer {
         requires { log.old.made + 9 ≤ length log.old.messages.now }
         ensures { Logs log.old log.new (renewals me.number count.number object.number (output_of self.now)) }
     {
+        // a loop: of what a closure changes for `for_each`, a proof knows nothing afterwards
         for input in 0..count.get() {
             self.ask_renewal(me, input, object, log);
         }

@@ -51,6 +51,7 @@ impl OutputServer {
     }
 
     // Time passes. A clock that would pass the last time stays.
+    // Both kinds of servers share `later`; numbers know no refusals, so each names this one.
     pub fn tick(&mut self, increment: u64) -> Result<(), Refusal>
         ensures does { ticking increment (output_of self.old) ≡ (acceptance result, output_of self.new) }
         ensures same { is_ok result ≡ false → self.new ≡ self.old }

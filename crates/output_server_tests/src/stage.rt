@@ -3,7 +3,7 @@ use numbers::{
     Drift, Epoch, InputNumber, LeaseLength, Moment, ObjectNumber, OutputNumber, Time, Version,
 };
 use output_server::{OutputServer, Renewal};
-use quorum::{Majority, Refusal};
+use quorum::Majority;
 use rules::{Log, Message, Pair, Pairs, Parts};
 use std::process::Abort;
 use std::test::*;
@@ -121,14 +121,18 @@ impl Stage {
         Ok(said.err().map(|refusal| refusal.number()))
     }
 
+    // As the tests of input servers have it: no crate of tests stands on another.
     pub(crate) fn expect(
         &self,
         rt: &impl Abort,
         place: usize,
         message: Message,
     ) -> Result<(), Fail> {
-        let logged = self.log.get(place).ok_or(Refusal::NoSuchMessage)?;
-        assert_eq!(rt; logged, &message, "message {place} of the step");
+        assert_eq!(rt;
+            self.log.get(place),
+            Some(&message),
+            "message {place} of the step"
+        );
         Ok(())
     }
 

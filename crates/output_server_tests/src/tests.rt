@@ -1,4 +1,5 @@
 // Output servers, by example.
+// Tests that read alike differ in their values, which is what each is for.
 use crate::stage::{Answer, Stage, told};
 use numbers::Version;
 use rules::{Pairs, Parts};

@@ -40,6 +40,7 @@ impl MemberSet {
     }
 
     // Whether every number in the set is below the count.
+    // The set is read as a number here, as `contains` reads it: no plainer word says it.
     pub fn is_within(self, count: u8) -> bool
         ensures { result ≡ nat_lt self.0 (2 ^ count) }
     {

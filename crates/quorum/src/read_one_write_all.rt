@@ -8,6 +8,7 @@ use crate::refusal::Refusal;
 use crate::system::QuorumSystem;
 
 // Any set with a member is a read set, and only the full set is a write set.
+// `new` and `count` read as the majority's do: the types are two, and share `MemberCount`.
 #[derive(Clone, Copy, Debug, PartialEq, Eq)]
 pub struct ReadOneWriteAll {
     members: MemberCount,

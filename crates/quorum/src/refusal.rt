@@ -66,6 +66,7 @@ pub enum Refusal {
 }
 
 impl Refusal {
+    // What a refusal is called where it is printed. No call answers this number in its place.
     pub fn number(self) -> u8
         ensures { result ≡ number_of self }
     {

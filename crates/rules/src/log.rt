@@ -4,6 +4,7 @@ ghost use Rattle.rules.specs.Steps.{has_room, Logs};
 use crate::message::Message;
 
 // Whether nine messages can still be made: no step makes more.
+// Slice and count come apart here, of a log that is only looked at: a `Log` borrows it to write.
 pub fn has_room(log: &[Message], made: usize) -> bool
     ensures { result ≡ has_room made log.now }
 {

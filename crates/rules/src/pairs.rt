@@ -12,6 +12,7 @@ pub struct Pair {
 
 // A list of 0 to 8 pairs: the first `count` items. A count above 8 is out of range, and a message
 // with such a list is refused.
+// No heap on a mast, and a count above 8 has to be told from one of 8: so an array and its count.
 #[derive(Clone, Copy, Debug, PartialEq, Eq)]
 pub struct Pairs {
     pub count: u8,

@@ -11,6 +11,7 @@ pub enum Parts {
 
 impl Parts {
     // The parts that are wanted. One of the two is, wherever this is asked.
+    // The two flags are answers to two questions, and turn no function into another one.
     pub fn of(object: bool, volume: bool) -> Parts
         ensures { result ≡ parts_of object volume }
     {

@@ -1,1 +1,3 @@
-pub mod Full
+mod FindMap
+mod Full
+mod Passing

@@ -1,5 +1,5 @@
 -- Lost members: which sets can be left, and whether those are sets of a family.
-use Rattle.std.specs.Prelude.{◌≡◌, ℕ, ◌-◌, ◌^◌, ◌<◌, ◌≤◌, Bool, true, false, Some, None, Ok, Err, Option, Result, ◌≢◌, count_ones}
+use Rattle.std.specs.Prelude.{◌≡◌, ℕ, ◌-◌, ◌^◌, ◌<◌, ◌≤◌, Bool, true, false, Some, None, Ok, Err, Option, Result, count_ones}
 use Rattle.quorum.specs.Refusals.{number_of}
 use Rattle.quorum.specs.Systems.{System}
 use Rattle.quorum.specs.declared.member_set.MemberSet.{MemberSet}
@@ -40,8 +40,8 @@ abbrev pub Surveyed : System → {A : Type 0} → (A → Type 0) → Result A Re
 Surveyed q P (Ok x) = (q.count ≤ limit) × P x
 Surveyed q P (Err e) = (limit < q.count) × (number_of e ≡ 2)
 
--- the lowest set of k of n members that is in the family or, where `wanted` is false, is not
-abbrev pub First : (ℕ → Bool) → Bool → ℕ → ℕ → Option MemberSet → Type 0
-First in_family wanted k n None = (s : ℕ) → Of k n s → in_family s ≢ wanted
-First in_family wanted k n (Some s) =
-    Of k n s.0 × (in_family s.0 ≡ wanted) × ((t : ℕ) → t < s.0 → count_ones t ≡ k → in_family t ≢ wanted)
+-- the lowest set of k of n members that passes
+abbrev pub FirstToPass : (MemberSet → Bool → Type 0) → ℕ → ℕ → Option MemberSet → Type 0
+FirstToPass passes k n None = (s : ℕ) → Of k n s → passes (record { 0 = s }) false
+FirstToPass passes k n (Some s) =
+    Of k n s.0 × passes s true × ((t : ℕ) → t < s.0 → count_ones t ≡ k → passes (record { 0 = t }) false)

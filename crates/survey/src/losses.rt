@@ -1,12 +1,13 @@
 // What losses of members leave of a quorum system: whether reads and writes still find their
 // sets, and the smallest set that each can do with. Both go over all sets of the members.
 ghost use Rattle.std.specs.Prelude.{◌≡◌, ◌≤◌};
-ghost use Rattle.survey.specs.Losses.{sets_of, limit, FindsAfter, Surveyed, First};
+ghost use Rattle.survey.specs.Losses.{sets_of, limit, FindsAfter, Surveyed, FirstToPass};
 ghost use Rattle.survey.specs.Smallest.{Smallest};
 
 use quorum::{MemberSet, QuorumSystem, Refusal};
 
 // The two families of sets of a system.
+// They are two by name: neither stands for none, or for what went wrong.
 #[derive(Clone, Copy)]
 pub enum Family {
     Read,
@@ -48,24 +49,18 @@ fn few_members<Q: QuorumSystem>(system: &Q) -> Result<u8, Refusal>
     Ok(count)
 }
 
-// The lowest set of that many members that is in the family or, where `wanted` is false, is not.
-fn first_set<Q: QuorumSystem>(
-    system: &Q,
-    family: Family,
-    wanted: bool,
-    size: u8,
-    count: u8,
-) -> Option<MemberSet>
-    requires { count ≤ limit }
-    ensures { First (sets_of family (Q.meaning system.now)) wanted size count result }
+// The lowest set of that many members that passes.
+fn first_set<F: Fn(MemberSet) -> bool>(size: u8, count: u8, passes: F) -> Option<MemberSet>
+    requires few { count ≤ limit }
+    requires callable { F.IsAlwaysCallable passes }
+    ensures { FirstToPass (F.post passes) size count result }
 {
-    for number in 0..1u64 << count {
-        let set = MemberSet(number);
-        if set.len() == size as u32 && family.has(system, set) == wanted {
-            return Some(set);
-        }
-    }
-    None
+    (0..1u64 << count)
+        .find(|number| {
+            let set = MemberSet(*number);
+            set.len() == size as u32 && passes(set)
+        })
+        .map(MemberSet)
 }
 
 // Whether what is left after that many losses is a set of the family. To lose more members than
@@ -76,8 +71,8 @@ pub fn finds_after<Q: QuorumSystem>(system: &Q, family: Family, lost: u8) -> Res
 {
     let count = few_members(system)?;
     let size = count.saturating_sub(lost);
-    let found = first_set(system, family, true, size, count);
-    let missed = first_set(system, family, false, size, count);
+    let found = first_set(size, count, |set| family.has(system, set));
+    let missed = first_set(size, count, |set| !family.has(system, set));
     let finds = match (found, missed) {
         (_, None) => Finds::Always,
         (None, Some(_)) => Finds::Never,
@@ -92,11 +87,11 @@ pub fn smallest_set<Q: QuorumSystem>(system: &Q, family: Family) -> Result<Membe
         Surveyed q (λ s. Smallest (sets_of family q) q.count s.0) result }
 {
     let count = few_members(system)?;
-    for size in 0..count {
-        if let Some(set) = first_set(system, family, true, size, count) {
-            return Ok(set);
-        }
-    }
     // no part of the members is in the family, and all of them together always are
-    Ok(MemberSet((1u64 << count) - 1))
+    let smaller = (0..count).find_map(
+        |size|
+            requires { count ≤ limit }
+        { first_set(size, count, |set| family.has(system, set)) },
+    );
+    Ok(smaller.unwrap_or(MemberSet((1u64 << count) - 1)))
 }

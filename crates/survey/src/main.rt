@@ -14,6 +14,7 @@ use text::Servers;
 
 fn survey<Q: QuorumSystem>(rt: &impl Print, servers: &str, system: &Q) -> Result<()> {
     println!(rt; "  {servers}")?;
+    // a loop: each turn prints a line, and ends the survey by `?` where that fails
     for lost in 0..=system.count() {
         let reads = finds_after(system, Family::Read, lost)?;
         let writes = finds_after(system, Family::Write, lost)?;

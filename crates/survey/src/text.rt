@@ -25,15 +25,12 @@ pub struct Servers(pub MemberSet);
 
 impl fmt::Display for Servers {
     fn fmt<W: fmt::Write>(&self, f: &mut fmt::Formatter<W>) -> fmt::Result {
-        let mut listed = false;
-        for number in 0..64 {
-            if self.0.contains(number) {
-                if listed {
-                    f.write_str(", ")?;
-                }
-                write!(f, "{number}")?;
-                listed = true;
+        let members = (0..64).filter(|number| self.0.contains(*number));
+        for (place, number) in members.enumerate() {
+            if place > 0 {
+                f.write_str(", ")?;
             }
+            write!(f, "{number}")?;
         }
         Ok(())
     }

@@ -72,6 +72,7 @@ impl Chains {
 
     // The place of the object's record in the chain, or the place behind the last record if the
     // chain does not name the object.
+    // No `find`, which would lose the number of that last record.
     pub(super) fn find(&self, output: OutputNumber, object: u8) -> Place
         ensures { Found self.now output.number object result }
     {
@@ -96,6 +97,7 @@ impl Chains {
     }
 
     // The first invalidations that wait for the output server, as many as a list shows.
+    // No heap, so nothing to collect them in: they are put into the list one by one.
     pub fn first(&self, output: OutputNumber) -> Pairs
         ensures { result ≡ pairs (take shown (waiting_for self.now output.number)) }
     {

@@ -1,24 +1,24 @@
-use Rattle.std.proofs.Common.{◌≡◌, ℕ, [], ◌∷◌, ap, ◌∙◌, arith}
-use Rattle.rules.specs.Lists.{each}
-use Rattle.rules.specs.State.{State, post}
-use Rattle.field.specs.Views.{state_of}
-use Rattle.field.proofs.Posts.{posts_more, none_posted}
+use Rattle.std.proofs.Common.{ℕ, ◌<◌, [], ◌∷◌, length, ap, subst, arith}
+use Rattle.guarantee.proofs.Words.{each_long}
+use Rattle.rules.proofs.Logging.{logs_more, logs_length}
+use Rattle.rules.specs.Steps.{Logs}
 use Rattle.field.proofs.interior.Interior.log_all.Goals as goal
 
-pub loop-number-init : goal.loop-number-init
-loop-number-init g c = (omega arith, λ t. none_posted (λ i. g.R.Requests.message c.args.requests.now i ∷ []) (state_of c.args.self.now c.args.log.now t))
-
-pub log_one-requires : goal.log_one-requires
-log_one-requires g c = omega arith
-
 pub loop-number-preserved : goal.loop-number-preserved
-loop-number-preserved g c = (
-  omega (arith, ap (λ (s : State). s.made) (c.log_one.ensures [])),
-  λ t. posts_more (λ i. g.R.Requests.message c.args.requests.now i) c.loop-number.number _ _ _ _ (c.loop-number.invariant.1 t) c.request.ensures (c.log_one.ensures t),
-)
-
-pub returns : goal.returns
-returns g c =
-    let e : c.loop-number.number ≡ c.args.count.number = omega (arith, c.loop-number-test.false, c.loop-number.auto, c.get-number-end.ensures) in
-    λ t. c.loop-number.invariant.1 t
-    ∙ ap (λ (n : ℕ). post (each n (λ i. g.R.Requests.message c.args.requests.now i ∷ [])) (state_of c.args.self.now c.args.log.now t)) e
+loop-number-preserved g c =
+    let request = λ (i : ℕ). g.R.Requests.message c.args.requests.now i in
+    let long = logs_length _ _ _ c.loop-number.invariant in
+    let free : c.loop-number.log.made < length c.loop-number.log.messages.now =
+    omega (
+      arith,
+      long,
+      ap length c.new-log.ensures.messages,
+      each_long c.loop-number.number request,
+      c.loop-number.invariant.made,
+      c.new-log.ensures.made,
+      c.requires,
+      c.loop-number-test.true,
+      c.get-number-end.ensures.inside,
+    ) in
+    logs_more (λ i. request i ∷ []) c.loop-number.number _ _ _ c.loop-number.invariant
+    (subst (λ m. Logs c.loop-number.log c.push.new.self (m ∷ [])) c.request.ensures (c.push.ensures.logged free))

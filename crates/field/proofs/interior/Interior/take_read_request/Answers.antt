@@ -1,25 +1,29 @@
-use Rattle.std.proofs.Common.{◌≡◌, ℕ, [], subst, arith}
+use Rattle.std.proofs.Common.{◌≡◌, ℕ, ◌<◌, ◌≤◌, [], length, sym, ap, ◌∙◌, arith, rules}
 use Rattle.guarantee.proofs.Fits.{fits_read}
-use Rattle.rules.specs.declared.message.Message.TheVariants.{ReadRequest}
+use Rattle.output_server.specs.Steps.{read_step}
+use Rattle.output_server.specs.Views.{output_of}
 use Rattle.rules.specs.Calls.{quiet, receives}
+use Rattle.rules.specs.Output.{answers_read}
+use Rattle.rules.specs.State.{no_output, output_at, post}
 use Rattle.field.specs.Views.{frame_of, state_of}
-use Rattle.field.proofs.Received.{read_taken, read_received}
+use Rattle.field.proofs.Received.{read_step_lem, passed, picked, logged}
 use Rattle.field.proofs.interior.Interior.take_read_request.Goals as goal
 
-pub reach_output-requires : goal.reach_output-requires
-reach_output-requires g c =
-    let f = fits_read (frame_of c.args.self.now).counts c.args.operation c.args.output c.args.object c.requires.fits in
-    record {
-      inside = omega (arith, f.0, c.args.self.now.output_count.inside);
-      taken = read_taken (g.I.QuorumSystem.meaning c.args.inputs.now) c.args.output c.args.operation c.numbered-object.result.number
-          (state_of c.args.self.now c.args.log.now []) (omega (arith, c.requires.counted, c.args.self.now.input_count.inside)) c.requires.ready.room;
-    }
-
 pub returns : goal.returns
-returns g c = λ o t.
+unfolding receives
+returns g c =
+    let f = c.args.self.now in
     let q = g.I.QuorumSystem.meaning c.args.inputs.now in
-    let s = state_of c.args.self.now c.args.log.now t in
-    subst (λ (b : ℕ). receives q o (ReadRequest c.args.operation c.args.output b) s ≡ quiet (state_of c.reach_output.new.self c.reach_output.new.log t))
-    c.numbered-object.ensures
-    (read_received q o c.args.operation c.args.output c.numbered-object.result.number s _ c.requires.counted
-    (omega (arith, c.requires.counted, c.args.self.now.input_count.inside)) c.requires.ready.room (c.reach_output.ensures t))
+    let j = c.args.output in
+    let p = c.args.operation in
+    let o = c.args.object in
+    let Q = output_at (state_of f c.args.log.now []) j in
+    let few : q.count ≤ 8 = omega (arith, c.requires.counted, f.input_count.inside) in
+    let at : c.index.result ≡ j = c.index.ensures.is ∙ c.numbered-me.ensures in
+    let inside : j < length f.outputs = search (rules, fits_read (frame_of f).counts p j o c.requires.fits) in
+    let here = picked output_of f.outputs j c.index.result c.index-self-index.result no_output at inside in
+    let step = sym (λ z. read_step q (c.numbered-me.ensures z) p (c.numbered.ensures z) (here z) (c.new-log.ensures.made z) (c.new-log.ensures.messages z))
+    ∙ c.answer_read.ensures.does in
+    λ _ t. ap (λ (n : ℕ). quiet (post (answers_read q j p n o Q) (state_of f c.args.log.now t))) (sym c.requires.counted)
+    ∙ logged f c.args.log.now t (answers_read q j p q.count o Q) c.answer_read.result c.answer_read.new.log _ _ c.made-self.ensures (search rules) _ _
+    (passed _ _ _ _ _ _ _ _ (read_step_lem q j p o Q f.made c.args.log.now few c.requires.ready.room) step)

@@ -1,24 +1,28 @@
-use Rattle.std.proofs.Common.{◌≡◌, ℕ, [], subst, arith}
+use Rattle.std.proofs.Common.{◌≡◌, ◌<◌, [], ◌∷◌, length, sym, ◌∙◌, rules}
 use Rattle.guarantee.proofs.Fits.{fits_renewal}
-use Rattle.rules.specs.declared.message.Message.TheVariants.{RenewalRequest}
-use Rattle.rules.specs.Calls.{quiet, receives}
+use Rattle.input_server.specs.Steps.{renewal_step}
+use Rattle.input_server.specs.Views.{input_of}
+use Rattle.rules.specs.Calls.{receives}
+use Rattle.rules.specs.Input.{answers_renewal}
+use Rattle.rules.specs.State.{no_input, input_at}
 use Rattle.field.specs.Views.{frame_of, state_of}
-use Rattle.field.proofs.Received.{renewal_taken, renewal_received}
+use Rattle.field.proofs.Received.{renewal_step_lem, passed, picked, input_changed}
 use Rattle.field.proofs.interior.Interior.take_renewal_request.Goals as goal
 
-pub reach_input-requires : goal.reach_input-requires
-reach_input-requires c =
-    let f = fits_renewal (frame_of c.args.self.now).counts c.args.output c.args.input c.args.parts c.args.object c.args.stamp c.requires.fits in
-    record {
-      inside = omega (arith, f.input, c.args.self.now.input_count.inside);
-      taken = renewal_taken c.args.input c.numbered-output.result.number c.args.parts c.numbered-object.result.number c.args.stamp
-          (state_of c.args.self.now c.args.log.now []) c.requires.ready.room;
-    }
-
 pub returns : goal.returns
-returns c = λ i o t.
-    let s = state_of c.args.self.now c.args.log.now t in
-    let z = quiet (state_of c.reach_input.new.self c.reach_input.new.log t) in
-    subst (λ (b : ℕ). receives i o (RenewalRequest c.args.output c.args.input c.args.parts b c.args.stamp) s ≡ z) c.numbered-object.ensures
-    (subst (λ (j : ℕ). receives i o (RenewalRequest j c.args.input c.args.parts c.numbered-object.result.number c.args.stamp) s ≡ z) c.numbered-output.ensures
-    (renewal_received i o c.numbered-output.result.number c.args.input c.args.parts c.numbered-object.result.number c.args.stamp s _ c.requires.ready.room (c.reach_input.ensures t)))
+unfolding receives
+returns c =
+    let f = c.args.self.now in
+    let i = c.args.input in
+    let j = c.args.output in
+    let a = c.args.parts in
+    let o = c.args.object in
+    let J = input_at (state_of f c.args.log.now []) i in
+    let at : c.index.result ≡ i = c.index.ensures.is ∙ c.numbered-me.ensures in
+    let inside : i < length f.inputs = search (rules, fits_renewal (frame_of f).counts j i a o c.args.stamp c.requires.fits) in
+    let here = picked input_of f.inputs i c.index.result c.index-self-index.result no_input at inside in
+    let step = sym (λ z. renewal_step (c.numbered-me.ensures z) f.lease.micros (c.numbered.ensures z) a (c.numbered-2.ensures z) c.args.stamp (here z)
+    (c.new-log.ensures.made z) (c.new-log.ensures.messages z)) ∙ c.answer_renewal.ensures.does in
+    λ _ _ t. input_changed f c.args.log.now t (answers_renewal i f.lease.micros j a o c.args.stamp J ∷ []) c.answer_renewal.result c.answer_renewal.new.log _ _
+    c.made-self.ensures (search rules) i c.index.result c.answer_renewal.new.self _ at
+    (passed _ _ _ _ _ _ _ _ (renewal_step_lem i f.lease.micros j a o c.args.stamp J f.made c.args.log.now c.requires.ready.room) step)

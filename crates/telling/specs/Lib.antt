@@ -1,0 +1,3 @@
+pub mod Words
+pub mod Sentences
+pub mod Ends

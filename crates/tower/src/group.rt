@@ -1,0 +1,40 @@
+// Messages that are delivered together.
+use rules::Message;
+
+// The messages with the numbers from the first to the last. Where there are none, the last is one below
+// the first.
+#[derive(Clone, Copy)]
+pub(crate) struct Group {
+    pub(crate) first: usize,
+    pub(crate) last: usize,
+}
+
+impl Group {
+    // How many messages these are.
+    pub(crate) fn len(self) -> usize {
+        self.last.saturating_add(1).saturating_sub(self.first)
+    }
+}
+
+// Which messages of a group are delivered.
+#[derive(Clone, Copy)]
+pub(crate) enum Which {
+    All,
+    // what goes to operations, and not from server to server
+    Answers,
+    // invalidations for other towers than the one with this number
+    ToOthersThan(u8),
+}
+
+impl Which {
+    pub(crate) fn takes(self, message: &Message) -> bool {
+        match self {
+            Which::All => true,
+            Which::Answers => message.operation().is_some(),
+            Which::ToOthersThan(tower) => match message {
+                Message::Invalidation { output, .. } => *output != tower,
+                _ => false,
+            },
+        }
+    }
+}
