@@ -22,7 +22,8 @@ fn clocks_fit(clocks: &[Time]) -> bool
     clocks.iter().all(|clock| *clock <= Time::LAST)
 }
 
-// The first refusal that an opening of a field meets that is not open.
+// The first refusal that an opening of a field meets that is not open. Its numbers are tested wide, as
+// the caller gives them: they do not convert to the types that carry a range.
 pub fn check_opening(
     n: u8,
     m: u8,

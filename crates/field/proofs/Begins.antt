@@ -1,5 +1,5 @@
 -- Beginning: what its tests say, and what it leaves.
-use Rattle.std.proofs.Common.{◌≡◌, ℕ, true, Some, ◌+◌, ◌<◌, ◌≤◌, Bool, not, leb, List, [], ◌∷◌, map, length, set, sym, refl, ap, ◌∙◌, arith}
+use Rattle.std.proofs.Common.{◌≡◌, ℕ, Some, ◌+◌, ◌<◌, ◌≤◌, not, leb, List, [], ◌∷◌, map, length, set, sym, refl, ap, ◌∙◌, arith}
 use Rattle.std.proofs.lemmas.List.{length-map, map-set}
 use Rattle.std.proofs.lemmas.Bool.{not-false, leb-false, leb-true}
 use Rattle.quorum.specs.declared.refusal.Refusal.{Refusal}

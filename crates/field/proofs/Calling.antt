@@ -14,7 +14,7 @@ use Rattle.field.specs.declared.interior.Interior.{Interior}
 use Rattle.field.specs.Checked.{later_refusal, delivery_check}
 use Rattle.field.specs.Delivered.{numbered, Deliverable}
 use Rattle.field.specs.Sound.{Sound}
-use Rattle.field.specs.Views.{frame_of, state_of}
+use Rattle.field.specs.Views.{state_of}
 use Rattle.field.proofs.Refusing.{decide, refuses_first, refuses_else, passes_first, passes_else, call_refuses, call_passes}
 use Rattle.field.proofs.Sounds.{Numbers, numbers_of, ready_of}
 

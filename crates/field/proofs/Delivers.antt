@@ -1,12 +1,12 @@
 -- What a delivery that is not refused knows of the operation that its message names.
-use Rattle.std.proofs.Common.{◌≡◌, ℕ, ◌-◌, ◌≤◌, true, leb, List, map, length, set, refl, ap, ◌∙◌, subst, arith}
+use Rattle.std.proofs.Common.{◌≡◌, ℕ, ◌-◌, ◌≤◌, true, leb, List, map, length, set, ap, ◌∙◌, subst, arith}
 use Rattle.std.proofs.lemmas.Bool.{and_parts, leb-true}
 use Rattle.quorum.specs.declared.member_set.MemberSet.{MemberSet}
 use Rattle.quorum.specs.Systems.{System}
 use Rattle.numbers.specs.declared.version.Version.{Version}
 use Rattle.numbers.specs.Numbers.{between}
 use Rattle.rules.specs.declared.message.Message.{Message}
-use Rattle.rules.specs.declared.message.Message.TheVariants.{ClockQuestion, ClockAnswer, WriteRequest, WriteAnswer, ReadRequest, ReadAnswer, RenewalRequest, RenewalAnswer, Invalidation, InvalidationAnswer}
+use Rattle.rules.specs.declared.message.Message.TheVariants.{ClockAnswer, WriteAnswer, ReadAnswer}
 use Rattle.rules.specs.Calls.{in_range, receives}
 use Rattle.rules.specs.Ranges.{numbers_fit, operation_fits, state_fits, has_room}
 use Rattle.rules.specs.declared.delivery.Delivery.{Delivery}
@@ -15,7 +15,7 @@ use Rattle.rules.specs.State.{outcome}
 use Rattle.operation.specs.States.{operation_of}
 use Rattle.operation.specs.declared.table.Operation.{Operation}
 use Rattle.field.specs.declared.interior.Interior.{Interior}
-use Rattle.field.specs.Delivered.{numbered, Deliverable, for_server}
+use Rattle.field.specs.Delivered.{numbered, Deliverable}
 use Rattle.field.specs.Heard.{Accepts, heard_at}
 use Rattle.field.specs.Ranging.{place_of, known_in}
 use Rattle.field.specs.Views.{frame_of, state_of}
@@ -33,9 +33,6 @@ module _ (i o : System) (f : Interior) (log : List Message) (table : List Operat
   tests : (m : Message) → numbered log number ≡ m
       → (numbers_fit (frame_of f).counts m ≡ true) × (operation_fits (known_in (frame_of f).counts f.begun table) (λ p. has_room (place_of table p)) m ≡ true)
   tests m e = and_parts (numbers_fit (frame_of f).counts m) _ (subst (λ (x : Message). in_range x (state_of f log table) ≡ true) e d.within_range)
-
-  pub numbers_fit_lem : numbers_fit (frame_of f).counts (numbered log number) ≡ true
-  numbers_fit_lem = (tests (numbered log number) refl).0
 
   inside : (p : ℕ) → between 1 f.begun p ≡ true → (1 ≤ p) × (p ≤ length table)
   inside p h =
@@ -99,19 +96,3 @@ module _ (i o : System) (f : Interior) (log : List Message) (table : List Operat
       ∙ pair_leaves i o j p v x f log table table' r (pair_reached j p v x e).own
       (place ∙ ap (λ (m : Message). set (map operation_of table) (p - 1) (heard_at i o m (place_of table p)).place) e)
       (said ∙ ap (λ (m : Message). (heard_at i o m (place_of table p)).said) e)
-
--- what is left over is for a server
-pub served : (m : Message)
-    → ((i p c : ℕ) → m ≡ ClockAnswer i p c → ⊥) → ((i p : ℕ) (t : MemberSet) → m ≡ WriteAnswer i p t → ⊥)
-    → ((j p : ℕ) (v : Version) (x : ℕ) → m ≡ ReadAnswer j p v x → ⊥) → ((p j o : ℕ) → m ≡ ReadRequest p j o → ⊥)
-    → for_server m ≡ true
-served (ClockQuestion p i) a b c d = refl
-served (ClockAnswer i p k) a b c d = absurd (a i p k refl)
-served (WriteRequest p i o v x) a b c d = refl
-served (WriteAnswer i p t) a b c d = absurd (b i p t refl)
-served (ReadRequest p j o) a b c d = absurd (d p j o refl)
-served (ReadAnswer j p v x) a b c d = absurd (c j p v x refl)
-served (RenewalRequest j i t o stamp) a b c d = refl
-served (RenewalAnswer i j t o v x e stamp length l) a b c d = refl
-served (Invalidation i j o v) a b c d = refl
-served (InvalidationAnswer j i l) a b c d = refl

@@ -5,11 +5,8 @@ pub mod Calling
 pub mod Continued
 pub mod Delivers
 pub mod EachServer
-pub mod Fields
-pub mod Hears
 pub mod Opens
 pub mod Places
-pub mod Posts
 pub mod Received
 pub mod Refusing
 pub mod Sounds

@@ -1,5 +1,5 @@
 -- One place of the table: what is there, and what an answer leaves there.
-use Rattle.std.proofs.Common.{◌≡◌, ℕ, ◌-◌, ◌≤◌, true, false, cond, eqb, List, [], map, length, get_or, set, sym, refl, ap, ◌∙◌, arith}
+use Rattle.std.proofs.Common.{◌≡◌, ℕ, ◌+◌, ◌-◌, ◌≤◌, true, false, cond, eqb, List, [], map, length, get_or, set, sym, refl, ap, ◌∙◌, arith}
 use Rattle.std.proofs.lemmas.List.{get_or-map, map-set, set-set, set-get_or}
 use Rattle.std.proofs.lemmas.Bool.{and_parts, eqb-true}
 use Rattle.quorum.specs.declared.member_set.MemberSet.{MemberSet}
@@ -10,6 +10,7 @@ use Rattle.rules.specs.declared.message.Message.{Message}
 use Rattle.rules.specs.declared.message.Message.TheVariants.{ClockAnswer, WriteAnswer, ReadAnswer}
 use Rattle.rules.specs.Answers.{end_of}
 use Rattle.rules.specs.Calls.{operation_at, with_operation, quiet, hears_clock_answer, hears_write_answer, hears_read_answer, receives}
+use Rattle.rules.specs.Lists.{each}
 use Rattle.rules.specs.Operation.{Operation, unused, asking, sending, reading, ended, hears_clock, knows_clock, gets_version, write_requests, hears_named, is_written, hears_pair, is_read}
 use Rattle.rules.specs.Ranges.{Counts, state_fits}
 use Rattle.rules.specs.State.{State, write_ended, read_ended, Outcome, outcome, post}
@@ -20,7 +21,12 @@ use Rattle.field.specs.declared.interior.Interior.{Interior}
 use Rattle.field.specs.Heard.{Heard, asking_place, asking_sends, clock_place, clock_sends, sending_heard, reading_heard, heard_at}
 use Rattle.field.specs.Ranging.{place_of}
 use Rattle.field.specs.Views.{state_of}
-use Rattle.field.proofs.Posts.{none_posted}
+
+-- nothing is posted
+none_posted : (f : ℕ → List Message) (s : State) → s ≡ post (each 0 f) s
+none_posted f s =
+    let e : s.made ≡ s.made + 0 = omega arith in
+    λ t. record { frame = s.frame; made = e t; begun = s.begun; inputs = s.inputs; outputs = s.outputs; log = s.log; table = s.table }
 
 pub place_read : (table : List Code.Operation) (p : ℕ) (d : Code.Operation) → 1 ≤ p → p ≤ length table → operation_of (get_or table (p - 1) d) ≡ place_of table p
 place_read table p d a b = sym (get_or-map operation_of table (p - 1) d unused (omega arith))

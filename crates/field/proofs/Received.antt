@@ -16,7 +16,7 @@ use Rattle.rules.specs.Calls.{quiet}
 use Rattle.rules.specs.Input.{Input, no_ledger, answers_clock, after_write, answers_write, after_renewal, answers_renewal}
 use Rattle.rules.specs.Lists.{list_of}
 use Rattle.rules.specs.Output.{Output, answers_read, after_answer, acknowledgement, after_invalidation, answers_invalidation}
-use Rattle.rules.specs.State.{State, no_input, no_output, post, with_input, with_output}
+use Rattle.rules.specs.State.{no_input, post, with_input, with_output}
 use Rattle.rules.specs.Steps.{StepSaid, made_now, refused, Step, step_says, step, steps, stays, has_room, with_room}
 use Rattle.input_server.specs.declared.server.InputServer.{InputServer}
 use Rattle.input_server.specs.Epochs.{has_epoch, have_epochs}

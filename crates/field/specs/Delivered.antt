@@ -1,8 +1,7 @@
 -- A delivery that is not refused.
-use Rattle.std.specs.Prelude.{◌≡◌, ℕ, ◌-◌, ◌≤◌, Bool, true, false, List, length, slice_index_or}
+use Rattle.std.specs.Prelude.{◌≡◌, ℕ, ◌-◌, ◌≤◌, true, List, length, slice_index_or}
 use Rattle.quorum.specs.Systems.{System}
 use Rattle.rules.specs.declared.message.Message.{Message}
-use Rattle.rules.specs.declared.message.Message.TheVariants.{ClockQuestion, ClockAnswer, WriteRequest, WriteAnswer, ReadRequest, ReadAnswer, RenewalRequest, RenewalAnswer, Invalidation, InvalidationAnswer}
 use Rattle.rules.specs.Calls.{no_message, in_range}
 use Rattle.operation.specs.declared.table.Operation.{Operation}
 use Rattle.field.specs.declared.interior.Interior.{Interior}
@@ -23,16 +22,3 @@ pub record Deliverable (inputs outputs : System) (f : Interior) (log : List Mess
   pub low : 1 ≤ number
   pub high : number ≤ length log
   pub within_range : in_range (numbered log number) (state_of f log table) ≡ true
-
--- the message is for a server, and asks no quorum system
-abbrev pub for_server : Message → Bool
-for_server (ClockQuestion p i) = true
-for_server (ClockAnswer i p c) = false
-for_server (WriteRequest p i o v x) = true
-for_server (WriteAnswer i p t) = false
-for_server (ReadRequest p j o) = false
-for_server (ReadAnswer j p v x) = false
-for_server (RenewalRequest j i a o stamp) = true
-for_server (RenewalAnswer i j a o v x e stamp length l) = true
-for_server (Invalidation i j o v) = true
-for_server (InvalidationAnswer j i l) = true

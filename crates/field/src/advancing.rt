@@ -39,7 +39,7 @@ impl Interior {
         Ok(())
     }
 
-    // The first refusal before it looks at the clocks.
+    // The first refusal that an advance meets before it looks at the clocks.
     fn check_increments<I: QuorumSystem, O: QuorumSystem>(
         &self,
         log: &[Message],

@@ -18,6 +18,7 @@ use rules::{Message, has_room};
 
 impl Interior {
     // The next operation is an asking write, and a clock question goes to every input server.
+    #[tactic(auto, using(crate::proofs::Begins::beginnable, crate::proofs::Begins::write_refuses))]
     pub(crate) fn begin_write<I: QuorumSystem, O: QuorumSystem>(
         &mut self,
         log: &mut [Message],
@@ -30,7 +31,7 @@ impl Interior {
         ensures does { beginning_write (I.QuorumSystem.meaning systems.now.inputs) (O.QuorumSystem.meaning systems.now.outputs) object value (state_of self.old log.old table.old) ≡ outcome (beginning_says result) (state_of self.new log.new table.new) }
         ensures same { is_ok result ≡ false → (self.new ≡ self.old) × (log.new ≡ log.old) × (table.new ≡ table.old) }
     {
-        self.check_object(log, table, systems, object)?;
+        self.check_beginning(log, table, systems, object)?;
         let operation = self.begun + 1;
         let write = AskingWrite::new(operation, object as u8, value);
         self.enter(table, Operation::Asking(write));
@@ -38,7 +39,9 @@ impl Interior {
         Ok(operation)
     }
 
-    // The next operation is a read, and a read request goes to every output server.
+    // The next operation is a read, and a read request goes to every output server. It reads as the other
+    // beginning: it enters another state and asks the other side.
+    #[tactic(auto, using(crate::proofs::Begins::beginnable, crate::proofs::Begins::read_refuses))]
     pub(crate) fn begin_read<I: QuorumSystem, O: QuorumSystem>(
         &mut self,
         log: &mut [Message],
@@ -50,7 +53,7 @@ impl Interior {
         ensures does { beginning_read (I.QuorumSystem.meaning systems.now.inputs) (O.QuorumSystem.meaning systems.now.outputs) object (state_of self.old log.old table.old) ≡ outcome (beginning_says result) (state_of self.new log.new table.new) }
         ensures same { is_ok result ≡ false → (self.new ≡ self.old) × (log.new ≡ log.old) × (table.new ≡ table.old) }
     {
-        self.check_object(log, table, systems, object)?;
+        self.check_beginning(log, table, systems, object)?;
         let operation = self.begun + 1;
         let read = Read::new(operation, object as u8);
         let requests = ReadRequests {
@@ -62,8 +65,8 @@ impl Interior {
         Ok(operation)
     }
 
-    // The first refusal that a beginning meets.
-    fn check_object<I: QuorumSystem, O: QuorumSystem>(
+    // The first refusal that a beginning meets, of either kind of operation.
+    fn check_beginning<I: QuorumSystem, O: QuorumSystem>(
         &self,
         log: &[Message],
         table: &[Operation],
@@ -75,10 +78,10 @@ impl Interior {
         if !self.is_as_opened(log, table, systems) {
             return Err(Refusal::NotAsOpened);
         }
-        if object >= u64::from(self.objects) {
+        if object >= self.objects as u64 {
             return Err(Refusal::NoSuchObject);
         }
-        if usize::from(self.begun) >= table.len() {
+        if self.begun as usize >= table.len() {
             return Err(Refusal::TableFull);
         }
         if !has_room(log, self.made) {

@@ -3,6 +3,9 @@
 // `does`, that its answer and all that it leaves are those of the rules; `same`, that where it
 // refuses, field, log and table themselves are as they were, and not only what they mean; and
 // `guaranteed`, the whole read guarantee, for every story of calls that led to the field it found.
+// Each hands on what it is lent, under the same names: a field keeps the invariant and may not be open
+// yet, and what is inside is of an open one. Log and table come apart, and not as one value, since
+// opening and advancing only read them.
 ghost use Rattle.std.specs.Prelude.{◌≡◌, false, is_ok};
 ghost use Rattle.guarantee.specs.Story.{to_open, to_advance, to_write, to_read, to_deliver};
 ghost use Rattle.rules.specs.Answers.{acceptance, beginning_says, delivery_says};
@@ -45,6 +48,7 @@ impl Field {
     }
 
     // Moves every clock by its increment, the input servers first.
+    #[tactic(auto, using(crate::proofs::Closed::advance_closed))]
     pub fn advance<I: QuorumSystem, O: QuorumSystem>(
         &mut self,
         log: &[Message],
@@ -63,6 +67,7 @@ impl Field {
     }
 
     // Begins a write of a value to an object, and gives the operation's number.
+    #[tactic(auto, using(crate::proofs::Closed::write_closed))]
     pub fn begin_write<I: QuorumSystem, O: QuorumSystem>(
         &mut self,
         log: &mut [Message],
@@ -82,6 +87,7 @@ impl Field {
     }
 
     // Begins a read of an object, and gives the operation's number.
+    #[tactic(auto, using(crate::proofs::Closed::read_closed))]
     pub fn begin_read<I: QuorumSystem, O: QuorumSystem>(
         &mut self,
         log: &mut [Message],
@@ -100,6 +106,7 @@ impl Field {
     }
 
     // Delivers the message with that number, and says whether an operation ended with it.
+    #[tactic(auto, using(crate::proofs::Closed::delivery_closed))]
     pub fn deliver<I: QuorumSystem, O: QuorumSystem>(
         &mut self,
         log: &mut [Message],

@@ -17,6 +17,7 @@ use rules::{Delivery, Message, has_room};
 
 impl Interior {
     // Tests the delivery, and then hands the message on.
+    #[tactic(auto, using(crate::proofs::Calling::delivery_passed, crate::proofs::Calling::delivery_refuses, crate::proofs::Calling::delivery_out_of_range, crate::proofs::Calling::deliverable, crate::proofs::Calling::begun_in_table))]
     pub(crate) fn deliver<I: QuorumSystem, O: QuorumSystem>(
         &mut self,
         log: &mut [Message],
@@ -35,7 +36,7 @@ impl Interior {
         Ok(self.receive(log, table, systems, number))
     }
 
-    // The first refusal before it looks at the message.
+    // The first refusal that a delivery meets before it looks at its message.
     fn check_message<I: QuorumSystem, O: QuorumSystem>(
         &self,
         log: &[Message],
@@ -57,7 +58,8 @@ impl Interior {
         Ok(())
     }
 
-    // The message is handed to the server or the operation that it is for.
+    // The message is handed to the server or the operation that it is for, kind by kind: all that it
+    // carries is handed on, so all is named.
     fn receive<I: QuorumSystem, O: QuorumSystem>(
         &mut self,
         log: &mut [Message],
@@ -84,14 +86,15 @@ impl Interior {
                 version,
                 value,
             } => self.take_write_request(log, operation, input, object, version, value),
-            Message::WriteAnswer { operation, .. } => {
-                return hear(table, systems, operation, &log[number - 1]);
-            }
             Message::ReadRequest {
                 operation,
                 output,
                 object,
             } => self.take_read_request(log, &systems.inputs, operation, output, object),
+            // an arm each: the check does not cover an arm of two patterns here yet
+            Message::WriteAnswer { operation, .. } => {
+                return hear(table, systems, operation, &log[number - 1]);
+            }
             Message::ReadAnswer { operation, .. } => {
                 return hear(table, systems, operation, &log[number - 1]);
             }

@@ -1,5 +1,5 @@
-// What the operations in the table do with answers. That nine places are free is asked and not kept
-// in a value: the log is lent anew with each call.
+// What the operations in the table do with answers. That nine places are free, and that the operation
+// has a place, is asked and not kept in a value: log and table are lent anew with each call.
 ghost use Rattle.std.specs.Prelude.{◌≡◌, ◌+◌, ◌-◌, ◌<◌, ◌≤◌, List, map, length, slice_set};
 ghost use Rattle.operation.specs.declared.table.Operation.{Operation as Place};
 ghost use Rattle.operation.specs.Alone.{asks_after, sends_after, reads_after};
@@ -34,6 +34,7 @@ impl Interior {
         ensures { receives (I.QuorumSystem.meaning systems.now.inputs) (O.QuorumSystem.meaning systems.now.outputs) (Message.ClockAnswer input operation clock) (state_of self.old log.old table.old) ≡ quiet (state_of self.new log.new table.new) }
     {
         let place = operation as usize - 1;
+        // made anew: the message lies in the log, which the write's requests go to
         let message = Message::ClockAnswer {
             input,
             operation,

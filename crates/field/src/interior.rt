@@ -3,8 +3,9 @@ use input_server::InputServer;
 use numbers::{Drift, LeaseLength, ServerCount};
 use output_server::OutputServer;
 
-// What an open field keeps. The ranges of these numbers stand in the field around it, since a call
-// changes one after the other and keeps them as a whole; a step asks for those that it needs.
+// What an open field keeps. That its numbers are in range is an invariant of the field around it: a
+// call changes one after the other, and all are in range when it ends. A step asks for those that it
+// needs.
 #[derive(Drop)]
 pub(crate) struct Interior {
     // what opening fixes
@@ -15,7 +16,7 @@ pub(crate) struct Interior {
     pub(crate) drift: Drift,
     pub(crate) log_len: usize,
     pub(crate) table_len: usize,
-    // messages made, operations begun
+    // messages made, operations begun: the log and the table that they count lie with the caller
     pub(crate) made: usize,
     pub(crate) begun: u16,
     // both sides, each server at the place of its number

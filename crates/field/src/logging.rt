@@ -14,7 +14,8 @@ use numbers::ServerCount;
 use operation::SendingWrite;
 use rules::{Log, Message};
 
-// A message for each server of a side.
+// A message for each server of a side. It is a trait, and no closure: `log_all` names each message in its
+// promise, and a closure promises a relation only.
 pub(crate) trait Requests {
     ghost message: { Self → ℕ → AnyMessage };
 

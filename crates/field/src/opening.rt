@@ -10,7 +10,8 @@ use checks::Opening;
 use numbers::{Drift, LeaseLength, ServerCount, Time};
 
 impl Interior {
-    // Every server begins in its first state, with its start clock.
+    // Every server begins in its first state, with its start clock. It is handed what the tests of an
+    // opening were.
     pub(crate) fn new(
         n: u8,
         m: u8,

@@ -1,6 +1,8 @@
 // What the servers do with messages, a function for each kind: each calls another step, and hands it
-// other numbers of its message. That the field is ready for one message more is asked of each, since
-// the log is lent anew with each call and no value can carry that its places are free.
+// other numbers of its message, which are plain ones until they are checked here. That the field is ready
+// for one message more is asked of each, since the log is lent anew with each call and no value can carry
+// that its places are free. Each opens a `Log` and takes its count back: a closure that did so would hide
+// from the proof what it changes.
 ghost use Rattle.std.specs.Prelude.{◌≡◌, true, List};
 ghost use Rattle.operation.specs.declared.table.Operation.{Operation as Place};
 ghost use Rattle.quorum.specs.Systems.{System};

@@ -38,7 +38,7 @@ pub(crate) trait Server {
     fn clock(&self) -> Time
         ensures { result ≡ shows (kept self.now) };
 
-    // Time passes, and the clock can show it.
+    // Time passes. The clock has to be able to show the time then.
     fn pass(&mut self, increment: u64)
         requires { nat_le ((shows (kept self.old)).0 + increment) last_time ≡ true }
         ensures { kept self.new ≡ later increment (kept self.old) };
@@ -68,6 +68,7 @@ impl Server for InputServer {
     }
 }
 
+// It reads as the other one: each names its own server's words of the rules.
 impl Server for OutputServer {
     ghost Kept = { Output };
 
@@ -115,13 +116,13 @@ pub(crate) fn clock_at<S: Server>(
     ensures { result ≡ cond (nat_lt number count.number) (Some (S.shows (slice_index_or (map S.kept servers.now) number (S.first (record { 0 = 0 }))))) None }
 {
     if number < count.get() {
-        Some(servers[usize::from(number)].clock())
+        Some(servers[number as usize].clock())
     } else {
         None
     }
 }
 
-// Whether the clock of each of the first servers can show its increment.
+// Whether the clock of each of the first servers can still be shown once it has moved by its increment.
 pub(crate) fn all_stay<S: Server>(servers: &[S; SERVERS], increments: &[u64]) -> bool
     requires { length increments.now ≤ 8 }
     ensures { result ≡ all_stay S.shows (S.first (record { 0 = 0 })) increments.now (map S.kept servers.now) }

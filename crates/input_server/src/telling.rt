@@ -31,6 +31,7 @@ impl InputServer {
     pub(crate) fn shut_out(&self, outputs: ServerCount, object: ObjectNumber) -> MemberSet
         ensures { result.0 ≡ set_of outputs.number (is_shut_out (input_of self.now) object.number) }
     {
+        // gathered here: of a test that a function is handed, it could promise a relation only, and no set
         (0..outputs.get())
             .filter(|output| self.is_shut_out(*output, object))
             .fold(MemberSet::EMPTY, |set, output| set.with(output))

@@ -151,7 +151,7 @@ impl Stage {
             .answer_renewal(self.input_number, &request, &mut log)?;
         self.made = log.made();
         print!(rt; "reaches the input server")?;
-        if self.granted(before) > 0 {
+        if self.grants(before) {
             let now = Moment::try_from(self.input.clock())?;
             let until = now.plus(self.lease).0;
             print!(rt; ", which counts on a lease until {until}")?;
@@ -159,12 +159,9 @@ impl Stage {
         Ok(())
     }
 
-    // The length of the lease that a renewal answer grants.
-    fn granted(&self, place: usize) -> u32 {
-        match self.log.get(place) {
-            Some(Message::RenewalAnswer { length, .. }) => *length,
-            _ => 0,
-        }
+    // Whether the message at that place grants a lease.
+    fn grants(&self, place: usize) -> bool {
+        matches!(self.log.get(place), Some(Message::RenewalAnswer { length, .. }) if *length > 0)
     }
 
     // An invalidation reaches the output server.

@@ -1,4 +1,4 @@
-// Messages in words.
+// Messages in words of this story's own: what it prints is kept, and there is one server of each kind.
 use numbers::{Epoch, Time, Version};
 use quorum::MemberSet;
 use rules::{Message, Pairs, Parts};

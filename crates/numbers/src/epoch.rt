@@ -4,6 +4,7 @@
 pub struct Epoch(pub u32);
 
 impl Epoch {
+    // 0, and no Option: messages carry it so, and it is below every epoch
     pub const NONE: Epoch = Epoch(0);
 
     pub const FIRST: Epoch = Epoch(1);

@@ -6,6 +6,7 @@ ghost use Rattle.numbers.specs.Numbers.{version_of, clock_of, next_version, is_v
 pub struct Version(pub u32);
 
 impl Version {
+    // 0, and no Option: messages carry it so, and it is below every version
     pub const NONE: Version = Version(0);
 
     // What every object starts at.

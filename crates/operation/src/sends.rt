@@ -84,6 +84,7 @@ impl SendingWrite {
     fn counted<I: QuorumSystem>(&self, inputs: &I, outputs: u8) -> MemberSet
         ensures { result ≡ gathered outputs (counts (I.meaning inputs.now) (I.meaning inputs.now).count self.now.named) }
     {
+        // gathered here: of a test that a function is handed, it could promise a relation only, and no set
         (0..outputs)
             .filter(|output| self.is_counted(*output, inputs))
             .fold(MemberSet::EMPTY, |set, output| set.with(output))
@@ -100,6 +101,7 @@ impl SendingWrite {
     fn namers(&self, output: u8, inputs: u8) -> MemberSet
         ensures { result ≡ gathered inputs (λ i. has (named_by self.now.named i) output) }
     {
+        // gathered here: of a test that a function is handed, it could promise a relation only, and no set
         (0..inputs)
             .filter(|input| self.named_by(*input).contains(output))
             .fold(MemberSet::EMPTY, |set, input| set.with(input))

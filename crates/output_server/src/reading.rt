@@ -36,6 +36,7 @@ impl OutputServer {
     fn good_inputs(&self, count: ServerCount, object: ObjectNumber) -> MemberSet
         ensures { result.0 ≡ set_of count.number (good (output_of self.now) object.number) }
     {
+        // gathered here: of a test that a function is handed, it could promise a relation only, and no set
         (0..count.get())
             .filter(|input| self.is_good(*input, object))
             .fold(MemberSet::EMPTY, |set, input| set.with(input))
@@ -64,7 +65,8 @@ impl OutputServer {
         self.links[input as usize].until.is_live_at(self.clock())
     }
 
-    // A renewal request to every input server that is not good, rising.
+    // A renewal request to every input server that is not good, rising. It reads as the telling of an
+    // input server does: test and message differ, and neither crate stands on the other.
     pub(crate) fn ask_renewals(
         &self,
         me: OutputNumber,

@@ -10,6 +10,7 @@ pub struct Renewal {
     pub value: u64,
     pub epoch: Epoch,
     pub stamp: Moment,
+    // 0 where no lease is granted, as the message and the rules have it
     pub length: LeaseLength,
     pub list: Pairs,
 }

@@ -19,3 +19,22 @@ pub trait QuorumSystem {
 
     ghost lawful: { (q : Self) → Lawful (meaning q) };
 }
+
+// A system that is lent is one, too: two fields may share it.
+impl<'a, Q: QuorumSystem> QuorumSystem for &'a Q {
+    ghost meaning = { λ q. Q.QuorumSystem.meaning q.now };
+
+    ghost lawful = { λ q. Q.QuorumSystem.lawful q.now };
+
+    fn count(&self) -> u8 {
+        (**self).count()
+    }
+
+    fn is_read_set(&self, set: MemberSet) -> bool {
+        (**self).is_read_set(set)
+    }
+
+    fn is_write_set(&self, set: MemberSet) -> bool {
+        (**self).is_write_set(set)
+    }
+}

@@ -70,6 +70,19 @@ fn counts_of_members(rt: HostRuntime) {
 }
 
 #[test]
+fn a_system_that_is_lent_is_the_same(rt: HostRuntime) -> Result<(), Fail> {
+    let five = Majority::new(5)?;
+    let lent = &five;
+    expect(&rt, &lent, 0b00011, false, false);
+    expect(&rt, &lent, 0b00111, true, true);
+    assert_eq!(rt; QuorumSystem::count(&lent), 5);
+    let three = ReadOneWriteAll::new(3)?;
+    let lent = &three;
+    expect(&rt, &lent, 0b001, true, false);
+    Ok(())
+}
+
+#[test]
 fn member_sets_at_their_ends(rt: HostRuntime) {
     let ends = MemberSet::EMPTY.with(0).with(63);
     assert_eq!(rt; ends, MemberSet((1 << 63) + 1));

@@ -1,6 +1,7 @@
 use numbers::Version;
 
-// What a delivery says: whether an operation ended with it, and how.
+// What a delivery says: whether an operation ended with it, and how. It is no Option of an end: which
+// kind of operation ended is a part of the answer.
 #[derive(Clone, Copy, Debug, PartialEq, Eq)]
 pub enum Delivery {
     NothingEnded,

@@ -7,7 +7,7 @@ ghost use Rattle.survey.specs.Smallest.{Smallest};
 use quorum::{MemberSet, QuorumSystem, Refusal};
 
 // The two families of sets of a system.
-// They are two by name: neither stands for none, or for what went wrong.
+// Two cases, and no Option or Result: each is a family of its own.
 #[derive(Clone, Copy)]
 pub enum Family {
     Read,

@@ -1,4 +1,4 @@
-use Rattle.std.proofs.Common.{◌<◌, length, map, rules, sym, arith}
+use Rattle.std.proofs.Common.{◌<◌, length, map, rules, sym}
 use Rattle.std.proofs.lemmas.List.{get_or-map}
 use Rattle.field.proofs.EachServer.{may_pass, later_more}
 use Rattle.field.proofs.sides.tick_all.Goals as goal

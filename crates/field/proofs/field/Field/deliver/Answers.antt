@@ -10,17 +10,12 @@ use Rattle.field.proofs.Continued.{guaranteed}
 use Rattle.field.proofs.Sounds.{sound_after}
 use Rattle.field.proofs.field.Field.deliver.Goals as goal
 
-pub returns-in-None-clause-does : goal.returns-in-None-clause-does
-returns-in-None-clause-does g c =
-    delivery_closed (g.I.QuorumSystem.meaning c.args.systems.now.inputs) (g.O.QuorumSystem.meaning c.args.systems.now.outputs) c.args.self.now.interior c.args.log.now c.args.table.now c.in-None.is c.args.number
-
 pub returns-in-None-clause-guaranteed : goal.returns-in-None-clause-guaranteed
 unfolding outcome_of
 returns-in-None-clause-guaranteed g c =
     let i = g.I.QuorumSystem.meaning c.args.systems.now.inputs in
     let o = g.O.QuorumSystem.meaning c.args.systems.now.outputs in
-    let s = field_of c.args.self.now.interior c.args.log.now c.args.table.now in
-    guaranteed i o (g.met.I.QuorumSystem.lawful c.args.systems.now.inputs) (g.met.O.QuorumSystem.lawful c.args.systems.now.outputs) (to_deliver c.args.number) s s (refused 8)
+    guaranteed i o (g.met.I.QuorumSystem.lawful c.args.systems.now.inputs) (g.met.O.QuorumSystem.lawful c.args.systems.now.outputs) (to_deliver c.args.number) _ _ (refused 8)
     (delivery_closed i o c.args.self.now.interior c.args.log.now c.args.table.now c.in-None.is c.args.number)
 
 pub invariant_of-self : goal.invariant_of-self
@@ -31,8 +26,8 @@ invariant_of-self g c =
     let does = ap (λ (f : Option Interior). delivering i o c.args.number (field_of f c.args.log.now c.args.table.now)) c.in-Some.is ∙ c.deliver.ensures.does in
     record {
       sound =
-          sound_after i o (g.met.I.QuorumSystem.lawful c.args.systems.now.inputs) (g.met.O.QuorumSystem.lawful c.args.systems.now.outputs) (to_deliver c.args.number) c.args.self.now.interior (Some c.deliver.new.self) c.args.log.now c.deliver.new.log c.args.table.now c.deliver.new.table
-          (delivery_says c.deliver.result) c.args.self.now.sound does;
+          sound_after i o (g.met.I.QuorumSystem.lawful c.args.systems.now.inputs) (g.met.O.QuorumSystem.lawful c.args.systems.now.outputs) (to_deliver c.args.number)
+          c.args.self.now.interior (Some c.deliver.new.self) c.args.log.now c.deliver.new.log c.args.table.now c.deliver.new.table (delivery_says c.deliver.result) c.args.self.now.sound does;
     }
 
 pub returns-in-Some-clause-guaranteed : goal.returns-in-Some-clause-guaranteed
@@ -40,6 +35,6 @@ unfolding outcome_of
 returns-in-Some-clause-guaranteed g c =
     let i = g.I.QuorumSystem.meaning c.args.systems.now.inputs in
     let o = g.O.QuorumSystem.meaning c.args.systems.now.outputs in
-    let does = ap (λ (f : Option Interior). delivering i o c.args.number (field_of f c.args.log.now c.args.table.now)) c.in-Some.is ∙ c.deliver.ensures.does in
-    guaranteed i o (g.met.I.QuorumSystem.lawful c.args.systems.now.inputs) (g.met.O.QuorumSystem.lawful c.args.systems.now.outputs) (to_deliver c.args.number) (field_of c.args.self.now.interior c.args.log.now c.args.table.now)
-    (field_of (Some c.deliver.new.self) c.deliver.new.log c.deliver.new.table) (delivery_says c.deliver.result) does
+    guaranteed i o (g.met.I.QuorumSystem.lawful c.args.systems.now.inputs) (g.met.O.QuorumSystem.lawful c.args.systems.now.outputs) (to_deliver c.args.number) _
+    (field_of (Some c.deliver.new.self) c.deliver.new.log c.deliver.new.table) (delivery_says c.deliver.result)
+    (ap (λ (f : Option Interior). delivering i o c.args.number (field_of f c.args.log.now c.args.table.now)) c.in-Some.is ∙ c.deliver.ensures.does)

@@ -1,17 +1,7 @@
-use Rattle.std.proofs.Common.{sym, ap, ◌∙◌, subst}
+use Rattle.std.proofs.Common.{ap, ◌∙◌}
 use Rattle.operation.specs.States.{operation_of}
-use Rattle.rules.specs.declared.message.Message.TheVariants.{ClockAnswer}
-use Rattle.field.specs.Heard.{Accepts}
 use Rattle.field.proofs.Places.{place_read, clock_leaves}
 use Rattle.field.proofs.interior.Interior.hear_clock.Goals as goal
-
-pub ask_place-after-requires : goal.ask_place-after-requires
-ask_place-after-requires g c = record {
-  room = c.requires.room;
-  accepts = subst (Accepts (g.I.QuorumSystem.meaning c.args.systems.now.inputs) (g.O.QuorumSystem.meaning c.args.systems.now.outputs) (ClockAnswer c.args.input c.args.operation c.args.clock))
-      (sym (ap operation_of c.replace-before.ensures.value ∙ place_read c.args.table.now c.args.operation _ c.requires.begun.0 c.requires.begun.1))
-      c.requires.accepts;
-}
 
 pub returns : goal.returns
 returns g c =

@@ -1,8 +1,8 @@
-use Rattle.std.proofs.Common.{◌≡◌, ◌<◌, length, sym, ap, ◌∙◌, rules}
+use Rattle.std.proofs.Common.{◌≡◌, ◌<◌, length, ap, ◌∙◌, rules}
 use Rattle.guarantee.proofs.Fits.{fits_ack}
 use Rattle.input_server.specs.Views.{input_of}
 use Rattle.rules.specs.Calls.{quiet, receives}
-use Rattle.rules.specs.Input.{Input, acknowledges_all}
+use Rattle.rules.specs.Input.{acknowledges_all}
 use Rattle.rules.specs.State.{no_input}
 use Rattle.field.specs.Views.{frame_of}
 use Rattle.field.proofs.Received.{picked, input_taken}

@@ -1,4 +1,4 @@
-use Rattle.std.proofs.Common.{◌≡◌, ◌<◌, [], length, ◌∙◌, arith, rules}
+use Rattle.std.proofs.Common.{◌<◌, length, ◌∙◌, rules}
 use Rattle.guarantee.proofs.Fits.{fits_request}
 use Rattle.rules.specs.Calls.{receives}
 use Rattle.field.specs.Views.{frame_of}
