@@ -4,9 +4,7 @@ mod change;
 mod walk;
 
 use crate::record::{RECORDS, Record};
-
-// How many output servers there are at most.
-const OUTPUTS: usize = 8;
+use rules::SERVERS;
 
 // The invalidations that wait for each output server, in chains that share the records. The free
 // records form one more chain, so that taking one and giving one back are a step each.
@@ -17,7 +15,7 @@ const OUTPUTS: usize = 8;
 pub struct Chains {
     records: [Record; RECORDS],
     // the number of the first record of each chain
-    heads: [u8; OUTPUTS],
+    heads: [u8; SERVERS],
     // the number of the first free record
     free: u8,
     // every record is free or in one chain, and in no second place; every chain ends, and names no

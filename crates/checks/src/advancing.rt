@@ -3,13 +3,13 @@ ghost use Rattle.std.specs.Prelude.{◌≡◌, ◌+◌, nat_le};
 ghost use Rattle.numbers.specs.Numbers.{last_time};
 ghost use Rattle.rules.specs.Calls.{keeps_with, keeps_drift};
 
-use numbers::{Drift, Time};
+use numbers::{Drift, Moment, Time};
 
 // Whether a clock that is so much later can still be shown.
 pub fn stays(clock: Time, increment: u64) -> bool
     ensures { result ≡ nat_le (clock.0 + increment) last_time }
 {
-    clock <= Time::LAST && increment <= Time::LAST.0 - clock.0
+    Moment::try_from(clock).is_ok_and(|moment| moment.later(increment).is_some())
 }
 
 // Whether `x` keeps up with each of the increments.

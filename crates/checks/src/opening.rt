@@ -3,8 +3,9 @@ ghost use Rattle.std.specs.Prelude.{◌≡◌, false};
 ghost use Rattle.rules.specs.Calls.{clocks_fit};
 ghost use Rattle.checks.specs.Refused.{refusal_said, opening_refusal};
 
-use numbers::Time;
+use numbers::{Drift, Input, Kind, LeaseLength, Object, Output, Time};
 use quorum::Refusal;
+use rules::{MOST_MESSAGES, MOST_OPERATIONS, STEP_MESSAGES};
 
 // What a field is opened with: the number of objects, the lease length in microseconds, the drift in
 // thousandths.
@@ -19,11 +20,12 @@ pub struct Opening {
 fn clocks_fit(clocks: &[Time]) -> bool
     ensures { result ≡ clocks_fit clocks.now }
 {
-    clocks.iter().all(|clock| *clock <= Time::LAST)
+    clocks.iter().all(|clock| clock.is_shown())
 }
 
 // The first refusal that an opening of a field meets that is not open. Its numbers are tested wide, as
-// the caller gives them: they do not convert to the types that carry a range.
+// the caller gives them: each test has its own refusal, and the type of a lease length takes 0, which an
+// opening refuses.
 pub fn check_opening(
     n: u8,
     m: u8,
@@ -34,22 +36,26 @@ pub fn check_opening(
 ) -> Result<(), Refusal>
     ensures { refusal_said result ≡ opening_refusal false n m opening.objects opening.lease opening.drift clocks.now log_len table_len }
 {
-    if n > 8 || m > 8 {
+    if n > Input::LIMIT || m > Output::LIMIT {
         return Err(Refusal::TooManyMembers);
     }
-    if opening.objects < 1 || opening.objects > 16 {
+    if opening.objects < 1 || opening.objects > Object::LIMIT as u64 {
         return Err(Refusal::ObjectCount);
     }
-    if opening.lease < 1 || opening.lease > 1_000_000_000 {
+    if opening.lease < 1 || opening.lease > LeaseLength::LONGEST as u64 {
         return Err(Refusal::LeaseLength);
     }
-    if opening.drift > 999 {
+    if opening.drift > Drift::HIGHEST as u64 {
         return Err(Refusal::DriftRange);
     }
     if clocks.len() != n as usize + m as usize || !clocks_fit(clocks) {
         return Err(Refusal::StartClocks);
     }
-    if log_len < 9 || log_len > 65_535 || table_len < 1 || table_len > 1024 {
+    if log_len < STEP_MESSAGES
+        || log_len > MOST_MESSAGES
+        || table_len < 1
+        || table_len > MOST_OPERATIONS as usize
+    {
         return Err(Refusal::Lengths);
     }
     Ok(())

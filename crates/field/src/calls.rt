@@ -60,10 +60,8 @@ impl Field {
         ensures same { is_ok result ≡ false → self.new ≡ self.old }
         ensures guaranteed { Guaranteed (I.QuorumSystem.meaning systems.now.inputs) (O.QuorumSystem.meaning systems.now.outputs) (to_advance increments.now) (field_of self.old.interior log.now table.now) (acceptance result) (field_of self.new.interior log.now table.now) }
     {
-        match &mut self.interior {
-            Some(interior) => interior.advance(log, table, systems, increments),
-            None => Err(Refusal::NotOpen),
-        }
+        let interior = self.interior.as_mut().ok_or(Refusal::NotOpen)?;
+        interior.advance(log, table, systems, increments)
     }
 
     // Begins a write of a value to an object, and gives the operation's number.
@@ -80,10 +78,8 @@ impl Field {
         ensures same { is_ok result ≡ false → (self.new ≡ self.old) × (log.new ≡ log.old) × (table.new ≡ table.old) }
         ensures guaranteed { Guaranteed (I.QuorumSystem.meaning systems.now.inputs) (O.QuorumSystem.meaning systems.now.outputs) (to_write object value) (field_of self.old.interior log.old table.old) (beginning_says result) (field_of self.new.interior log.new table.new) }
     {
-        match &mut self.interior {
-            Some(interior) => interior.begin_write(log, table, systems, object, value),
-            None => Err(Refusal::NotOpen),
-        }
+        let interior = self.interior.as_mut().ok_or(Refusal::NotOpen)?;
+        interior.begin_write(log, table, systems, object, value)
     }
 
     // Begins a read of an object, and gives the operation's number.
@@ -99,10 +95,8 @@ impl Field {
         ensures same { is_ok result ≡ false → (self.new ≡ self.old) × (log.new ≡ log.old) × (table.new ≡ table.old) }
         ensures guaranteed { Guaranteed (I.QuorumSystem.meaning systems.now.inputs) (O.QuorumSystem.meaning systems.now.outputs) (to_read object) (field_of self.old.interior log.old table.old) (beginning_says result) (field_of self.new.interior log.new table.new) }
     {
-        match &mut self.interior {
-            Some(interior) => interior.begin_read(log, table, systems, object),
-            None => Err(Refusal::NotOpen),
-        }
+        let interior = self.interior.as_mut().ok_or(Refusal::NotOpen)?;
+        interior.begin_read(log, table, systems, object)
     }
 
     // Delivers the message with that number, and says whether an operation ended with it.
@@ -118,9 +112,7 @@ impl Field {
         ensures same { is_ok result ≡ false → (self.new ≡ self.old) × (log.new ≡ log.old) × (table.new ≡ table.old) }
         ensures guaranteed { Guaranteed (I.QuorumSystem.meaning systems.now.inputs) (O.QuorumSystem.meaning systems.now.outputs) (to_deliver number) (field_of self.old.interior log.old table.old) (delivery_says result) (field_of self.new.interior log.new table.new) }
     {
-        match &mut self.interior {
-            Some(interior) => interior.deliver(log, table, systems, number),
-            None => Err(Refusal::NotOpen),
-        }
+        let interior = self.interior.as_mut().ok_or(Refusal::NotOpen)?;
+        interior.deliver(log, table, systems, number)
     }
 }

@@ -107,7 +107,8 @@ pub(crate) fn hear<I: QuorumSystem, O: QuorumSystem>(
     delivery
 }
 
-// A sending write is handed an answer. It ends as a write, which is said apart from a read.
+// A sending write is handed an answer. Only its place and what is said of its end differ from `read_on`:
+// a function of both would be handed two closures, and promise what they do, for one match of three arms.
 fn send_on<I: QuorumSystem, O: QuorumSystem>(
     write: SendingWrite,
     message: &Message,

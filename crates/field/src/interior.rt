@@ -1,7 +1,7 @@
-use crate::sides::SERVERS;
 use input_server::InputServer;
 use numbers::{Drift, LeaseLength, ServerCount};
 use output_server::OutputServer;
+use rules::SERVERS;
 
 // What an open field keeps. That its numbers are in range is an invariant of the field around it: a
 // call changes one after the other, and all are in range when it ends. A step asks for those that it
@@ -19,7 +19,7 @@ pub(crate) struct Interior {
     // messages made, operations begun: the log and the table that they count lie with the caller
     pub(crate) made: usize,
     pub(crate) begun: u16,
-    // both sides, each server at the place of its number
+    // both sides, each server at the place of its number; eight whatever the count, as the rules have them
     pub(crate) inputs: [InputServer; SERVERS],
     pub(crate) outputs: [OutputServer; SERVERS],
 }

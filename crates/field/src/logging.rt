@@ -1,7 +1,6 @@
 // Messages that go to every server of a side.
 ghost use Rattle.std.specs.Prelude.{◌≡◌, ℕ, ◌+◌, ◌≤◌, List, [], ◌∷◌, length};
 ghost use Rattle.operation.specs.declared.table.Operation.{Operation as Place};
-ghost use Rattle.operation.specs.declared.sending.SendingWrite.{SendingWrite as Write};
 ghost use Rattle.operation.specs.States.{sending_of};
 ghost use Rattle.rules.specs.declared.message.Message.{Message as AnyMessage};
 ghost use Rattle.rules.specs.declared.message.Message.TheVariants.{ClockQuestion, WriteRequest, ReadRequest};
@@ -15,7 +14,7 @@ use operation::SendingWrite;
 use rules::{Log, Message};
 
 // A message for each server of a side. It is a trait, and no closure: `log_all` names each message in its
-// promise, and a closure promises a relation only.
+// promise, and of a closure every caller would have to say first which function it computes.
 pub(crate) trait Requests {
     ghost message: { Self → ℕ → AnyMessage };
 

@@ -25,10 +25,7 @@ impl Field {
 pub fn blank_message() -> Message
     ensures { result ≡ no_message }
 {
-    Message::ClockQuestion {
-        operation: 0,
-        input: 0,
-    }
+    Message::BLANK
 }
 
 // A place of a table that no operation has taken yet.

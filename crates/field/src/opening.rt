@@ -11,7 +11,7 @@ use numbers::{Drift, LeaseLength, ServerCount, Time};
 
 impl Interior {
     // Every server begins in its first state, with its start clock. It is handed what the tests of an
-    // opening were.
+    // opening were, one by one: no third function takes them all. Each of them was found to be in range.
     pub(crate) fn new(
         n: u8,
         m: u8,

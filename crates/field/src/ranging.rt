@@ -32,22 +32,18 @@ impl Interior {
         self.counts().fit(message) && self.has_operation(message, table)
     }
 
-    // The operation that the message names, if it is of a kind that names one.
+    // The operation that the message names, if it is of a kind that names one. It reads as `State::is_named`,
+    // which asks the same of one state that is kept alone and of its own number.
     fn has_operation(&self, message: &Message, table: &[Operation]) -> bool
         requires { self.now.begun ≤ length table.now }
         ensures { result ≡ operation_fits (known_in (frame_of self.now).counts self.now.begun table.now) (λ p. has_room (place_of table.now p)) message.now }
     {
+        let Some(operation) = message.operation() else {
+            return true;
+        };
         match message {
-            Message::ClockQuestion { operation, .. }
-            | Message::WriteRequest { operation, .. }
-            | Message::WriteAnswer { operation, .. }
-            | Message::ReadRequest { operation, .. }
-            | Message::ReadAnswer { operation, .. } => self.knows(table, *operation),
-            Message::ClockAnswer { operation, .. } => self.knows_with_room(table, *operation),
-            Message::RenewalRequest { .. }
-            | Message::RenewalAnswer { .. }
-            | Message::Invalidation { .. }
-            | Message::InvalidationAnswer { .. } => true,
+            Message::ClockAnswer { .. } => self.knows_with_room(table, operation),
+            _ => self.knows(table, operation),
         }
     }
 

@@ -1,6 +1,6 @@
 // The servers of a field stand in two tables, one for each side. What a field does with all servers
 // of a side is the same for input servers and for output servers.
-ghost use Rattle.std.specs.Prelude.{◌≡◌, ℕ, ◌+◌, ◌≤◌, true, cond, List, [], ◌∷◌, Some, None, length, map, nat_le, nat_lt, slice_index_or};
+ghost use Rattle.std.specs.Prelude.{◌≡◌, ℕ, ◌+◌, ◌≤◌, true, cond, [], ◌∷◌, Some, None, length, map, nat_le, nat_lt, slice_index_or};
 ghost use Rattle.numbers.specs.declared.time.Time.{Time as LocalTime};
 ghost use Rattle.numbers.specs.Numbers.{last_time};
 ghost use Rattle.input_server.specs.Views.{input_of};
@@ -14,10 +14,8 @@ use checks::stays;
 use input_server::InputServer;
 use numbers::{Moment, ServerCount, Time};
 use output_server::OutputServer;
+use rules::SERVERS;
 use std::array;
-
-// The most servers of a side.
-pub(crate) const SERVERS: usize = 8;
 
 // A server of either side: it has a clock.
 pub(crate) trait Server {

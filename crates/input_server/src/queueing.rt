@@ -10,9 +10,6 @@ use chain::Queued;
 use numbers::{Epoch, ObjectNumber, OutputNumber, ServerCount, Version};
 use rules::{Held, Pair};
 
-// The last epoch that can be followed by another one.
-const LAST_EPOCH: Epoch = Epoch(65_535);
-
 impl InputServer {
     // A version above the one held is taken, with its value.
     #[tactic(auto, unfolding(rules::specs::Input::takes_write))]
@@ -31,11 +28,11 @@ impl InputServer {
         }
     }
 
-    // Whether each output server can be given a further epoch.
+    // Whether each output server can be given a further epoch: not where it has the last one.
     pub(crate) fn has_epochs(&self, outputs: ServerCount) -> bool
         ensures { result ≡ have_epochs self.now.ledgers outputs.number }
     {
-        (0..outputs.index()).all(|output| self.ledgers[output].epoch <= LAST_EPOCH)
+        (0..outputs.index()).all(|output| self.ledgers[output].epoch < Epoch::LAST)
     }
 
     // The version held waits for every output server that has to be told of it, in rising order.
@@ -49,6 +46,7 @@ impl InputServer {
         }
     }
 
+    // The number is a plain one, as the range yields it.
     fn queue_for(&mut self, number: u8, object: ObjectNumber)
         requires inside { number < 8 }
         requires spare { has_epoch self.old.ledgers number ≡ true }
@@ -85,6 +83,7 @@ impl InputServer {
         }
     }
 
+    // There is a next epoch: that was asked before the step began.
     fn begin_epoch(&mut self, output: OutputNumber)
         requires { has_epoch self.old.ledgers output.number ≡ true }
         ensures { input_of self.new ≡ next_epoch output.number (input_of self.old) }

@@ -10,17 +10,14 @@ ghost use Rattle.input_server.specs.Views.{input_of};
 use crate::requests::RenewalRequest;
 use crate::server::InputServer;
 use numbers::{InputNumber, LeaseLength, ObjectNumber, OutputNumber, Version};
-use rules::{Message, Newest, Pairs, Parts};
-
-// As many invalidations as a list shows.
-const SHOWN: u8 = 8;
+use rules::{MOST_PAIRS, Message, Newest, Pairs, Parts};
 
 impl InputServer {
     // The lease that is granted, if one is: where all that waits can be told with it.
     pub(crate) fn granted(&self, request: &RenewalRequest) -> Option<LeaseLength>
         ensures { result ≡ (if grants request.now.parts request.now.output.number (input_of self.now) then Some request.now.lease else None) }
     {
-        if request.parts.has_volume() && self.chains.len(request.output) <= SHOWN {
+        if request.parts.has_volume() && self.chains.len(request.output) as usize <= MOST_PAIRS {
             Some(request.lease)
         } else {
             None

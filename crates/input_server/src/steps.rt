@@ -1,7 +1,8 @@
 // What an input server does with each kind of message that it is sent.
 // Each step promises two things: `does`, that it is the step of the rules, and `same`, that where it
 // refuses the server and the log themselves are as they were, and not only what they mean. Where it
-// logs, `loan` says that the log is still the same loan.
+// logs, `loan` says that the log is still the same loan. `me` is the server's own number: it is that of
+// its place in a field, and no server keeps it a second time.
 ghost use Rattle.std.specs.Prelude.{◌≡◌, false, is_ok};
 ghost use Rattle.rules.specs.Answers.{acceptance};
 ghost use Rattle.rules.specs.Input.{first_input};
@@ -12,9 +13,9 @@ ghost use Rattle.input_server.specs.Views.{input_of};
 use crate::requests::{RenewalRequest, WriteRequest};
 use crate::server::InputServer;
 use chain::Chains;
-use numbers::{Epoch, InputNumber, LeaseLength, Moment, Time, Version};
+use numbers::{Epoch, InputNumber, Moment, Time, Version};
 use quorum::Refusal;
-use rules::{Held, Ledger, Log, Message};
+use rules::{Held, Ledger, Log, Message, OBJECTS, SERVERS};
 
 impl InputServer {
     // A server that took no write and was asked nothing yet.
@@ -27,15 +28,15 @@ impl InputServer {
             given: Version::NONE,
         };
         let ledger = Ledger {
-            acked: [Version::NONE; 16],
+            acked: [Version::NONE; OBJECTS],
             epoch: Epoch::FIRST,
             until: Time::ZERO,
         };
         InputServer {
             clock,
             lc: 1,
-            objects: [held; 16],
-            ledgers: [ledger; 8],
+            objects: [held; OBJECTS],
+            ledgers: [ledger; SERVERS],
             chains: Chains::new(),
         }
     }

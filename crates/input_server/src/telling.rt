@@ -14,7 +14,8 @@ use rules::{Log, Message};
 impl InputServer {
     // An output server is shut out for an object if it was never given the object, went beyond all
     // that it was given, acknowledged the version held, or has no lease any more.
-    // The number is a plain one, as the ranges below yield it.
+    // The number is a plain one, as the ranges below yield it: an iterator of checked numbers would be a type
+    // of its own, with laws of its own, for a comparison that the check makes alone.
     fn is_shut_out(&self, output: u8, object: ObjectNumber) -> bool
         requires { output < 8 }
         ensures { result ≡ is_shut_out (input_of self.now) object.number output }
@@ -31,7 +32,8 @@ impl InputServer {
     pub(crate) fn shut_out(&self, outputs: ServerCount, object: ObjectNumber) -> MemberSet
         ensures { result.0 ≡ set_of outputs.number (is_shut_out (input_of self.now) object.number) }
     {
-        // gathered here: of a test that a function is handed, it could promise a relation only, and no set
+        // gathered here: a function that is handed the test would be public, and have to ask its callers that
+        // the test may be called; no public function asks anything
         (0..outputs.get())
             .filter(|output| self.is_shut_out(*output, object))
             .fold(MemberSet::EMPTY, |set, output| set.with(output))

@@ -8,11 +8,6 @@ use rules::{Log, Message, Pair, Pairs, Parts};
 use std::process::Abort;
 use std::test::*;
 
-const UNUSED: Message = Message::ClockQuestion {
-    operation: 0,
-    input: 0,
-};
-
 // Every lease that is granted lasts so long.
 pub(crate) const LEASE: u32 = 1_000;
 
@@ -33,7 +28,7 @@ impl Stage {
         let clock = Moment::try_from(Time::ZERO)?;
         Ok(Stage {
             server: InputServer::new(clock),
-            log: [UNUSED; 12],
+            log: [Message::BLANK; 12],
             me: InputNumber::try_from(2)?,
             outputs: ServerCount::try_from(outputs)?,
             lease: LeaseLength::try_from(LEASE)?,

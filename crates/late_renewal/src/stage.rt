@@ -10,11 +10,6 @@ use output_server::{OutputServer, Renewal};
 use quorum::Majority;
 use rules::{Log, Message, Pairs, Parts};
 
-const UNUSED: Message = Message::ClockQuestion {
-    operation: 0,
-    input: 0,
-};
-
 #[derive(Drop)]
 pub(crate) struct Stage {
     input: InputServer,
@@ -27,7 +22,8 @@ pub(crate) struct Stage {
     object: ObjectNumber,
     lease: LeaseLength,
     drift: Drift,
-    // what each step is lent as a `Log`, which ends with the step: the places, and how many are made
+    // what each step is lent as a `Log`, which ends with the step: the places, and how many are made; each
+    // lends it in a line of its own, since a method that did so would lend the servers with it
     log: [Message; 32],
     made: usize,
 }
@@ -45,7 +41,7 @@ impl Stage {
             object: ObjectNumber::try_from(0)?,
             lease: LeaseLength::try_from(1_000)?,
             drift: Drift::try_from(10)?,
-            log: [UNUSED; 32],
+            log: [Message::BLANK; 32],
             made: 0,
         })
     }
@@ -59,7 +55,7 @@ impl Stage {
 
     // Begins a line with the clock.
     fn begin(&self, rt: &impl Print) -> Result<()> {
-        let clock = self.input.clock().0;
+        let clock = self.input.clock();
         print!(rt; "{clock:>5}  ")?;
         Ok(())
     }
@@ -68,7 +64,7 @@ impl Stage {
     fn end(&self, rt: &impl Print, before: usize) -> Result<()> {
         for (place, message) in self.log.iter().enumerate().take(self.made).skip(before) {
             let words = Words(message);
-            let number = place as u64 + 1;
+            let number = place + 1;
             print!(rt; ", {words} [{number}]")?;
         }
         println!(rt)?;
@@ -96,8 +92,7 @@ impl Stage {
         value: u64,
     ) -> Result<()> {
         self.begin(rt)?;
-        let number = version.0;
-        print!(rt; "input server is asked to write version {number} with value {value}")?;
+        print!(rt; "input server is asked to write version {version} with value {value}")?;
         let before = self.made;
         let request = WriteRequest {
             outputs: self.outputs,
@@ -119,8 +114,7 @@ impl Stage {
             bail!("there is no message {number}");
         }
         self.begin(rt)?;
-        let shown = number as u64;
-        print!(rt; "[{shown}] ")?;
+        print!(rt; "[{number}] ")?;
         let before = self.made;
         if let Some(brought) = brought_in(&self.log[number - 1]) {
             self.renewed(rt, brought)?;
@@ -153,7 +147,7 @@ impl Stage {
         print!(rt; "reaches the input server")?;
         if self.grants(before) {
             let now = Moment::try_from(self.input.clock())?;
-            let until = now.plus(self.lease).0;
+            let until = now.plus(self.lease);
             print!(rt; ", which counts on a lease until {until}")?;
         }
         Ok(())
@@ -204,7 +198,7 @@ impl Stage {
         };
         print!(rt; "reaches the output server")?;
         if brought.length > 0 {
-            let until = renewal.stamp.lease_end(renewal.length, self.drift).0;
+            let until = renewal.stamp.lease_end(renewal.length, self.drift);
             print!(rt; ", which counts on a lease until {until}")?;
         }
         let mut log = Log::new(&mut self.log, self.made);

@@ -32,7 +32,7 @@ impl fmt::Display for Versions {
     fn fmt<W: fmt::Write>(&self, f: &mut fmt::Formatter<W>) -> fmt::Result {
         f.write_str("version")?;
         for pair in self.0.as_slice() {
-            let version = pair.version.0;
+            let version = pair.version;
             write!(f, " {version}")?;
         }
         Ok(())
@@ -79,16 +79,16 @@ pub(crate) fn brought_in(message: &Message) -> Option<Brought> {
 
 impl fmt::Display for Brought {
     fn fmt<W: fmt::Write>(&self, f: &mut fmt::Formatter<W>) -> fmt::Result {
-        let epoch = self.epoch.0;
+        let epoch = self.epoch;
         write!(f, "answers epoch {epoch}")?;
         if self.parts.has_object() {
-            let version = self.version.0;
+            let version = self.version;
             let value = self.value;
             write!(f, ", version {version}, value {value}")?;
         }
         if self.parts.has_volume() {
             let length = self.length;
-            let stamp = self.stamp.0;
+            let stamp = self.stamp;
             write!(f, ", a lease of {length} from {stamp}")?;
         }
         if self.list.len() > 0 {
@@ -106,16 +106,13 @@ impl<'a> fmt::Display for Words<'a> {
         }
         match self.0 {
             Message::ReadAnswer { version, value, .. } => {
-                let version = version.0;
                 write!(f, "answers version {version}, value {value}")
             }
             Message::RenewalRequest { parts, stamp, .. } => {
                 let parts = parts_in_words(*parts);
-                let stamp = stamp.0;
                 write!(f, "asks for {parts}, stamped {stamp}")
             }
             Message::Invalidation { version, .. } => {
-                let version = version.0;
                 write!(f, "tells the output server of version {version}")
             }
             Message::WriteAnswer { shut_out, .. } => f.write_str(shut_out_in_words(*shut_out)),

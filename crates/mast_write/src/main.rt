@@ -37,7 +37,7 @@ fn main(rt: HostRuntime) -> anyhow::Result<()> {
     let clocks = [clock(0, 7, 4), clock(1, 8, 60_000), clock(2, 7, 9)];
     let sending = ask(&rt, asking, &clocks, &systems)?;
 
-    let version = sending.version().0;
+    let version = sending.version();
     let value = sending.value();
     let object = sending.object();
     println!(rt; "Sending: version {version} of object {object}, value {value}.")?;
@@ -45,7 +45,7 @@ fn main(rt: HostRuntime) -> anyhow::Result<()> {
     let sets = [named(0, 7, 0b01), named(1, 7, 0b11), named(2, 7, 0b10)];
     let end = send(&rt, sending, &sets, &systems)?;
 
-    let version = end.version.0;
+    let version = end.version;
     let operation = end.operation;
     let value = end.value;
     println!(rt; "Ended: operation {operation}, version {version}, value {value}.")?;

@@ -52,6 +52,9 @@ raised v to = cond (nat_lt v.0 to.0) to v
 
 -- ---- epochs and times
 
+abbrev pub is_epoch : Epoch → Bool
+is_epoch e = between 1 65536 e.0
+
 abbrev pub later : Epoch → Epoch → Epoch
 later e to = cond (nat_lt e.0 to.0) to e
 

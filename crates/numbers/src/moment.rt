@@ -33,7 +33,7 @@ impl TryFrom<Time> for Moment {
     ghost try_from_gives = { λ t r. Checked (λ m. m.micros) (nat_le t.0 (2 ^ 40)) t.0 r };
 
     fn try_from(time: Time) -> Result<Moment, OutOfRange> {
-        if time <= Time::LAST {
+        if time.is_shown() {
             Ok(Moment { micros: time.0 })
         } else {
             Err(OutOfRange)
@@ -88,7 +88,7 @@ impl TryFrom<u32> for LeaseLength {
     ghost try_from_gives = { λ x r. Checked (λ l. l.micros) (nat_le x 1000000000) x r };
 
     fn try_from(micros: u32) -> Result<LeaseLength, OutOfRange> {
-        if micros <= 1_000_000_000 {
+        if micros <= LeaseLength::LONGEST {
             Ok(LeaseLength { micros })
         } else {
             Err(OutOfRange)
@@ -97,6 +97,9 @@ impl TryFrom<u32> for LeaseLength {
 }
 
 impl LeaseLength {
+    // The longest, in microseconds.
+    pub const LONGEST: u32 = 1_000_000_000;
+
     // Named for the unit, which `u32::from` would leave out.
     pub fn micros(self) -> u32
         ensures { result ≡ self.micros }
@@ -111,7 +114,7 @@ impl TryFrom<u16> for Drift {
     ghost try_from_gives = { λ x r. Checked (λ d. d.thousandths) (nat_le x 999) x r };
 
     fn try_from(thousandths: u16) -> Result<Drift, OutOfRange> {
-        if thousandths <= 999 {
+        if thousandths <= Drift::HIGHEST {
             Ok(Drift { thousandths })
         } else {
             Err(OutOfRange)
@@ -120,6 +123,9 @@ impl TryFrom<u16> for Drift {
 }
 
 impl Drift {
+    // The highest, in thousandths.
+    pub const HIGHEST: u16 = 999;
+
     // Named for the unit, which `u16::from` would leave out.
     pub fn thousandths(self) -> u16
         ensures { result ≡ self.thousandths }

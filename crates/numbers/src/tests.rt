@@ -54,6 +54,31 @@ fn versions_in_order(rt: HostRuntime) {
 }
 
 #[test]
+fn epochs_and_times_in_range(rt: HostRuntime) {
+    for (epoch, inside) in [(0, false), (1, true), (65_536, true), (65_537, false)] {
+        assert_eq!(rt; Epoch(epoch).is_epoch(), inside);
+    }
+    for (time, inside) in [(0, true), (1 << 40, true), ((1 << 40) + 1, false)] {
+        assert_eq!(rt; Time(time).is_shown(), inside);
+    }
+}
+
+#[test]
+fn versions_epochs_and_times_as_numbers(rt: HostRuntime) -> Result<(), Fail> {
+    let version = Version(131_073);
+    let epoch = Epoch(1);
+    let time = Time(1_490);
+    let text = format!(in rt.alloc(); "{version}, {epoch}, {time}, {time:>6}")?;
+    assert_eq!(rt; text.as_str(), "131073, 1, 1490,   1490");
+    let version = Version(u32::MAX);
+    let epoch = Epoch::NONE;
+    let time = Time(u64::MAX);
+    let text = format!(in rt.alloc(); "{version} {epoch} {time}")?;
+    assert_eq!(rt; text.as_str(), "4294967295 0 18446744073709551615");
+    Ok(())
+}
+
+#[test]
 fn epochs_and_times_in_order(rt: HostRuntime) {
     assert_eq!(rt; Epoch::FIRST.max(Epoch(2)), Epoch(2));
     assert_eq!(rt; Epoch(2).max(Epoch::FIRST), Epoch(2));

@@ -1,5 +1,7 @@
-ghost use Rattle.std.specs.Prelude.{◌≡◌};
+ghost use Rattle.std.specs.Prelude.{◌≡◌, Some, decimal};
 ghost use Rattle.numbers.specs.Numbers.{version_of, clock_of, next_version, is_version};
+
+use std::fmt;
 
 // A version: clock × 65,536 + operation number. 0 stands for "none".
 #[derive(Clone, Copy, Debug, PartialEq, Eq, PartialOrd, Ord)]
@@ -38,5 +40,14 @@ impl Version {
         ensures { result ≡ is_version self }
     {
         self >= Version::STARTING
+    }
+}
+
+// As its number, as are versions, epochs and times: an impl by a macro of ours would be refused.
+impl fmt::Display for Version {
+    ghost output = { λ v. Some (decimal v.0) };
+
+    fn fmt<W: fmt::Write>(&self, f: &mut fmt::Formatter<W>) -> fmt::Result {
+        fmt::Display::fmt(&self.0, f)
     }
 }

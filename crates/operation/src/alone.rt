@@ -8,14 +8,15 @@ ghost use Rattle.operation.specs.Counts.{counts_of};
 ghost use Rattle.operation.specs.Says.{Accepted};
 
 use crate::ranges::Counts;
+use numbers::{Input, Kind, Object, Output};
 use quorum::{QuorumSystem, Refusal, Systems};
-use rules::Message;
+use rules::{MOST_OPERATIONS, Message};
 
 // Whether a system has more members than a field has servers on a side.
 fn too_many<I: QuorumSystem, O: QuorumSystem>(systems: &Systems<I, O>) -> bool
     ensures { result ≡ too_many (I.QuorumSystem.meaning systems.now.inputs) (O.QuorumSystem.meaning systems.now.outputs) }
 {
-    systems.inputs.count() > 8 || systems.outputs.count() > 8
+    systems.inputs.count() > Input::LIMIT || systems.outputs.count() > Output::LIMIT
 }
 
 // The widest ranges that a field over these systems has.
@@ -25,7 +26,7 @@ fn widest<I: QuorumSystem, O: QuorumSystem>(systems: &Systems<I, O>) -> Counts
     Counts {
         inputs: systems.inputs.count(),
         outputs: systems.outputs.count(),
-        objects: 16,
+        objects: Object::LIMIT,
     }
 }
 
@@ -54,7 +55,9 @@ pub(crate) trait State: Sized {
             return true;
         };
         let own = self.operation();
-        let begun = operation == own && (1..=1024).contains(&own) && self.fits(counts, own);
+        let begun = operation == own
+            && (1..=MOST_OPERATIONS).contains(&own)
+            && self.fits(counts, own);
         match message {
             Message::ClockAnswer { .. } => begun && self.has_room(),
             _ => begun,

@@ -12,7 +12,7 @@ use crate::sending::SendingWrite;
 use crate::steps::AskingStep;
 use numbers::Version;
 use quorum::{MemberSet, QuorumSystem, Refusal, Systems};
-use rules::Message;
+use rules::{Message, SERVERS};
 
 impl AskingWrite {
     // A write of a value to an object, which has heard nothing yet.
@@ -72,9 +72,9 @@ impl AskingWrite {
         SendingWrite {
             operation: self.operation,
             object: self.object,
-            version: Version::new(self.clock + 1, self.operation),
+            version: Version::after(self.clock, self.operation).unwrap(),
             value: self.value,
-            named: [MemberSet::EMPTY; 8],
+            named: [MemberSet::EMPTY; SERVERS],
         }
     }
 }

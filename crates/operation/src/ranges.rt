@@ -1,5 +1,5 @@
 // Which messages have all their numbers in range.
-ghost use Rattle.std.specs.Prelude.{◌≡◌, ◌^◌, not, ◌&&◌, ◌||◌, if◌then◌else◌, ◌==◌, nat_le};
+ghost use Rattle.std.specs.Prelude.{◌≡◌, not, ◌&&◌, ◌||◌, if◌then◌else◌, ◌==◌, nat_le};
 ghost use Rattle.numbers.specs.Numbers.{between, is_version, longest};
 ghost use Rattle.rules.specs.Ranges.{ends, pair_fits, pairs_fit, list_fits, numbers_fit};
 ghost use Rattle.rules.specs.Renewals.{asks_object, asks_volume};
@@ -7,8 +7,8 @@ ghost use Rattle.rules.specs.Lists.{list_of};
 ghost use Rattle.operation.specs.Counts.{counts_of};
 ghost use Rattle.operation.specs.Senders.{between_servers};
 
-use numbers::{Epoch, Time, Version};
-use rules::{Message, Pair, Pairs, Parts};
+use numbers::{LeaseLength, Version};
+use rules::{MOST_PAIRS, Message, Pair, Pairs, Parts};
 
 // How many input servers, output servers and objects there are: numbers are held to these.
 #[derive(Clone, Copy)]
@@ -68,7 +68,7 @@ impl Counts {
                 object,
                 stamp,
                 ..
-            } => self.ends_fit(*input, *output) && *object < self.objects && is_shown(*stamp),
+            } => self.ends_fit(*input, *output) && *object < self.objects && stamp.is_shown(),
             // each of its numbers has a range, so each is named
             Message::RenewalAnswer {
                 input,
@@ -84,8 +84,8 @@ impl Counts {
             } => {
                 self.ends_fit(*input, *output)
                     && *object < self.objects
-                    && is_epoch(*epoch)
-                    && is_shown(*stamp)
+                    && epoch.is_epoch()
+                    && stamp.is_shown()
                     && copy_fits(*parts, *version, *value)
                     && self.lease_fits(*parts, *length, *list)
             }
@@ -122,7 +122,7 @@ impl Counts {
     fn list_fits(self, list: Pairs) -> bool
         ensures { result ≡ list_fits (counts_of self) list }
     {
-        list.count <= 8 && self.pairs_fit(list)
+        list.count as usize <= MOST_PAIRS && self.pairs_fit(list)
     }
 
     fn pairs_fit(self, list: Pairs) -> bool
@@ -136,7 +136,7 @@ impl Counts {
         ensures { result ≡ (if asks_volume parts then nat_le length longest && list_fits (counts_of self) list else (length == 0) && list.count == 0) }
     {
         if parts.has_volume() {
-            length <= 1_000_000_000 && self.list_fits(list)
+            length <= LeaseLength::LONGEST && self.list_fits(list)
         } else {
             length == 0 && list.count == 0
         }
@@ -159,17 +159,4 @@ fn is_answered(clock: u16) -> bool
     ensures { result ≡ between 1 65534 clock }
 {
     (1..=65_534).contains(&clock)
-}
-
-fn is_epoch(epoch: Epoch) -> bool
-    ensures { result ≡ between 1 65536 epoch.0 }
-{
-    (1..=65_536).contains(&epoch.0)
-}
-
-// Whether a clock can show the time.
-fn is_shown(time: Time) -> bool
-    ensures { result ≡ nat_le time.0 (2 ^ 40) }
-{
-    time <= Time::LAST
 }

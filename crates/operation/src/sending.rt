@@ -1,5 +1,6 @@
 use numbers::Version;
 use quorum::MemberSet;
+use rules::SERVERS;
 
 // A write that sends its version. It knows, for each input server, which output servers that one
 // named as shut out.
@@ -10,5 +11,5 @@ pub struct SendingWrite {
     pub(crate) object: u8,
     pub(crate) version: Version,
     pub(crate) value: u64,
-    pub(crate) named: [MemberSet; 8],
+    pub(crate) named: [MemberSet; SERVERS],
 }

@@ -13,6 +13,7 @@ use crate::alone::State;
 use crate::ranges::Counts;
 use crate::sending::SendingWrite;
 use crate::steps::{End, Step};
+use numbers::{Input, Kind};
 use quorum::{MemberSet, QuorumSystem, Refusal, Systems};
 use rules::Message;
 
@@ -84,7 +85,8 @@ impl SendingWrite {
     fn counted<I: QuorumSystem>(&self, inputs: &I, outputs: u8) -> MemberSet
         ensures { result ≡ gathered outputs (counts (I.meaning inputs.now) (I.meaning inputs.now).count self.now.named) }
     {
-        // gathered here: of a test that a function is handed, it could promise a relation only, and no set
+        // gathered here: a function that is handed the test would be public, and have to ask its callers that
+        // the test may be called; no public function asks anything
         (0..outputs)
             .filter(|output| self.is_counted(*output, inputs))
             .fold(MemberSet::EMPTY, |set, output| set.with(output))
@@ -101,7 +103,8 @@ impl SendingWrite {
     fn namers(&self, output: u8, inputs: u8) -> MemberSet
         ensures { result ≡ gathered inputs (λ i. has (named_by self.now.named i) output) }
     {
-        // gathered here: of a test that a function is handed, it could promise a relation only, and no set
+        // gathered here: a function that is handed the test would be public, and have to ask its callers that
+        // the test may be called; no public function asks anything
         (0..inputs)
             .filter(|input| self.named_by(*input).contains(output))
             .fold(MemberSet::EMPTY, |set, input| set.with(input))
@@ -121,7 +124,7 @@ impl SendingWrite {
     fn named_fit(&self, counts: Counts) -> bool
         ensures { result ≡ named_fit (counts_of counts) 8 self.now.named }
     {
-        (0..8).all(|input| self.named_fits(input, counts))
+        (0..Input::LIMIT).all(|input| self.named_fits(input, counts))
     }
 
     fn named_fits(&self, input: u8, counts: Counts) -> bool

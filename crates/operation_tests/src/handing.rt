@@ -1,7 +1,7 @@
 // Hands a state one message after another. Nothing here says what it returns: the tests look at what
 // the code does, and not at what it promises.
 use numbers::Version;
-use operation::{AskingStep, AskingWrite, End, Operation, Read, SendingWrite, Step};
+use operation::{AskingStep, AskingWrite, End, Operation, Step};
 use quorum::{Majority, MemberSet, QuorumSystem, ReadOneWriteAll, Refusal, Systems};
 use rules::Message;
 

@@ -36,13 +36,14 @@ impl OutputServer {
     fn good_inputs(&self, count: ServerCount, object: ObjectNumber) -> MemberSet
         ensures { result.0 ≡ set_of count.number (good (output_of self.now) object.number) }
     {
-        // gathered here: of a test that a function is handed, it could promise a relation only, and no set
+        // gathered here: a function that is handed the test would be public, and have to ask its callers that
+        // the test may be called; no public function asks anything
         (0..count.get())
             .filter(|input| self.is_good(*input, object))
             .fold(MemberSet::EMPTY, |set, input| set.with(input))
     }
 
-    // Here and below the number is a plain one, as the ranges yield it.
+    // Here and below the number is a plain one, as the ranges yield it, and as in an input server.
     fn is_good(&self, input: u8, object: ObjectNumber) -> bool
         requires { input < 8 }
         ensures { result ≡ good (output_of self.now) object.number input }
@@ -66,7 +67,8 @@ impl OutputServer {
     }
 
     // A renewal request to every input server that is not good, rising. It reads as the telling of an
-    // input server does: test and message differ, and neither crate stands on the other.
+    // input server does; only test and message differ, and a trait of messages that may be none, which
+    // both crates would have to stand on, would take more lines than it saves.
     pub(crate) fn ask_renewals(
         &self,
         me: OutputNumber,

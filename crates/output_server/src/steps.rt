@@ -1,7 +1,8 @@
 // What an output server does with each kind of message that it is sent.
 // Each step promises two things: `does`, that it is the step of the rules, and `same`, that where it
 // refuses the server and the log themselves are as they were, and not only what they mean. Where it
-// logs, `loan` says that the log is still the same loan.
+// logs, `loan` says that the log is still the same loan. `me` is the server's own number: it is that of
+// its place in a field, and no server keeps it a second time.
 ghost use Rattle.std.specs.Prelude.{◌≡◌, false, is_ok};
 ghost use Rattle.rules.specs.Answers.{acceptance};
 ghost use Rattle.rules.specs.Output.{first_output};
@@ -16,7 +17,7 @@ use numbers::{
     Drift, Epoch, InputNumber, Moment, ObjectNumber, OutputNumber, ServerCount, Time, Version,
 };
 use quorum::{QuorumSystem, Refusal};
-use rules::{Copied, Link, Log, Message, Newest, Pair, Pairs};
+use rules::{Copied, Link, Log, Message, Newest, OBJECTS, Pair, Pairs, SERVERS};
 
 impl OutputServer {
     // A server that was given nothing yet.
@@ -29,7 +30,7 @@ impl OutputServer {
             epoch: Epoch::NONE,
         };
         let link = Link {
-            copies: [copied; 16],
+            copies: [copied; OBJECTS],
             epoch: Epoch::NONE,
             until: Time::ZERO,
         };
@@ -39,8 +40,8 @@ impl OutputServer {
         };
         OutputServer {
             clock,
-            newest: [newest; 16],
-            links: [link; 8],
+            newest: [newest; OBJECTS],
+            links: [link; SERVERS],
         }
     }
 
@@ -74,9 +75,7 @@ impl OutputServer {
         ensures same { is_ok result ≡ false → log.new ≡ log.old }
         ensures loan { log.new.messages.ghost_name ≡ log.old.messages.ghost_name }
     {
-        let Ok(count) = ServerCount::try_from(inputs.count()) else {
-            return Err(Refusal::TooManyMembers);
-        };
+        let count = ServerCount::try_from(inputs.count()).map_err(|_| Refusal::TooManyMembers)?;
         if !log.has_room() {
             return Err(Refusal::NoRoomToDeliver);
         }
@@ -121,7 +120,8 @@ impl OutputServer {
     }
 
     // A renewal answer from an input server: first what its list tells of, then its copy, then its
-    // lease. The list is acknowledged, unless it is empty.
+    // lease. The list is acknowledged, unless it is empty. The drift is the field's, and no part of what
+    // the message brings.
     #[tactic(auto, unfolding(rules::specs::Output::after_answer))]
     pub fn take_renewal(
         &mut self,

@@ -8,11 +8,6 @@ use rules::{Log, Message, Pair, Pairs, Parts};
 use std::process::Abort;
 use std::test::*;
 
-const UNUSED: Message = Message::ClockQuestion {
-    operation: 0,
-    input: 0,
-};
-
 // A renewal answer about object 3, in plain numbers.
 #[derive(Clone, Copy)]
 pub(crate) struct Answer {
@@ -42,7 +37,7 @@ impl Stage {
         let clock = Moment::try_from(Time(clock))?;
         Ok(Stage {
             server: OutputServer::new(clock),
-            log: [UNUSED; 12],
+            log: [Message::BLANK; 12],
             inputs: Majority::new(inputs)?,
             me: OutputNumber::try_from(4)?,
             object: ObjectNumber::try_from(3)?,

@@ -5,3 +5,4 @@ pub mod Systems
 pub mod Laws
 pub mod Members
 pub mod Chains
+pub mod Words

@@ -3,6 +3,7 @@
 // every layer stands on this one.
 #![tactic(auto)]
 
+mod listing;
 mod majority;
 mod member_count;
 mod member_set;

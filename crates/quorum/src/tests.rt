@@ -18,6 +18,17 @@ fn expect<Q: QuorumSystem>(rt: &impl Abort, system: &Q, set: u64, reads: bool, w
 }
 
 #[test]
+fn sets_in_words(rt: HostRuntime) -> Result<(), Fail> {
+    let sets = [0, 1, 0b1010, 1 << 63, 0b11 + (1 << 63)];
+    for (set, expected) in sets.iter().zip(["nobody", "0", "1, 3", "63", "0, 1, 63"]) {
+        let set = MemberSet(*set);
+        let text = format!(in rt.alloc(); "{set}")?;
+        assert_eq!(rt; text.as_str(), expected);
+    }
+    Ok(())
+}
+
+#[test]
 fn majority_is_more_than_half(rt: HostRuntime) -> Result<(), Fail> {
     let five = Majority::new(5)?;
     for set in [0, 0b00011, 0b10001] {

@@ -8,7 +8,7 @@ use Rattle.rules.specs.declared.message.Message.TheVariants.{ClockQuestion, Cloc
 use Rattle.rules.specs.declared.pairs.Pair.{Pair}
 use Rattle.rules.specs.declared.pairs.Pairs.{Pairs}
 use Rattle.rules.specs.Lists.{list_of}
-use Rattle.numbers.specs.Numbers.{between, is_version, shown, last_time, longest}
+use Rattle.numbers.specs.Numbers.{between, is_epoch, is_version, shown, last_time, longest}
 use Rattle.rules.specs.Operation.{Operation, unused, asking, sending, reading, ended, Asking, Sending, Reading, named_by}
 use Rattle.rules.specs.Renewals.{asks_object, asks_volume}
 
@@ -44,7 +44,7 @@ numbers_fit c (RenewalRequest j i a o stamp) = ends c i j && (nat_lt o c.k && na
 numbers_fit c (RenewalAnswer i j a o v x e stamp length l) =
     ends c i j
     && (nat_lt o c.k
-    && (between 1 65536 e.0
+    && (is_epoch e
     && (nat_le stamp.0 last_time
     && (cond (asks_object a) (is_version v) (v.0 == 0 && x == 0)
     && cond (asks_volume a) (nat_le length longest && list_fits c l) (length == 0 && l.count == 0)))))

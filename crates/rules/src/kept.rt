@@ -1,5 +1,6 @@
 // What the servers keep, in plain records. The servers themselves, with their steps, are built
 // from these in crates of their own.
+use crate::limits::OBJECTS;
 use numbers::{Epoch, Time, Version};
 
 // What an input server keeps of one object.
@@ -15,7 +16,7 @@ pub struct Held {
 #[derive(Clone, Copy)]
 pub struct Ledger {
     // for each object the highest version that was acknowledged
-    pub acked: [Version; 16],
+    pub acked: [Version; OBJECTS],
     pub epoch: Epoch,
     pub until: Time,
 }
@@ -38,7 +39,7 @@ pub struct Copied {
 // What an output server keeps of one input server.
 #[derive(Clone, Copy)]
 pub struct Link {
-    pub copies: [Copied; 16],
+    pub copies: [Copied; OBJECTS],
     pub epoch: Epoch,
     pub until: Time,
 }

@@ -3,6 +3,7 @@
 
 mod delivery;
 mod kept;
+mod limits;
 mod log;
 mod message;
 mod pairs;
@@ -12,6 +13,7 @@ mod tests;
 
 pub use delivery::Delivery;
 pub use kept::{Copied, Held, Ledger, Link, Newest};
+pub use limits::{MOST_MESSAGES, MOST_OPERATIONS, MOST_PAIRS, OBJECTS, SERVERS, STEP_MESSAGES};
 pub use log::{Log, has_room};
 pub use message::Message;
 pub use pairs::{Pair, Pairs};

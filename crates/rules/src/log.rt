@@ -1,14 +1,15 @@
 ghost use Rattle.std.specs.Prelude.{◌≡◌, ◌<◌, ◌≤◌, [], ◌∷◌, length};
 ghost use Rattle.rules.specs.Steps.{has_room, Logs};
 
+use crate::limits::STEP_MESSAGES;
 use crate::message::Message;
 
-// Whether nine messages can still be made: no step makes more.
+// Whether as many messages can still be made as a step makes at most.
 // Slice and count come apart here, of a log that is only looked at: a `Log` borrows it to write.
 pub fn has_room(log: &[Message], made: usize) -> bool
     ensures { result ≡ has_room made log.now }
 {
-    log.len() >= 9 && made <= log.len() - 9
+    log.len() >= STEP_MESSAGES && made <= log.len() - STEP_MESSAGES
 }
 
 // A log that is lent: the messages that were made, in order, and behind them the places that are

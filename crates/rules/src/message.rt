@@ -48,6 +48,7 @@ pub enum Message {
         object: u8,
         stamp: Time,
     },
+    // flat: the rules speak of a message by its numbers, and each rule would have to go through a struct
     RenewalAnswer {
         input: u8,
         output: u8,
@@ -75,6 +76,12 @@ pub enum Message {
 
 impl Message {
     ghost use Rattle.rules.specs.Ranges.{named_in};
+
+    // An entry of a log that no call has written yet.
+    pub const BLANK: Message = Message::ClockQuestion {
+        operation: 0,
+        input: 0,
+    };
 
     // The number of the operation that the message names, if it is of a kind that names one.
     pub fn operation(&self) -> Option<u16>

@@ -1,6 +1,7 @@
 ghost use Rattle.std.specs.Prelude.{◌≡◌, ◌≤◌, [], ◌∷◌, length};
 ghost use Rattle.rules.specs.Lists.{list_of, pair_at, pairs};
 
+use crate::limits::MOST_PAIRS;
 use numbers::Version;
 
 // An object and a version of it.
@@ -16,7 +17,7 @@ pub struct Pair {
 #[derive(Clone, Copy, Debug, PartialEq, Eq)]
 pub struct Pairs {
     pub count: u8,
-    pub items: [Pair; 8],
+    pub items: [Pair; MOST_PAIRS],
 }
 
 impl Pair {
@@ -32,14 +33,14 @@ impl Pairs {
     {
         Pairs {
             count: 0,
-            items: [Pair::NONE; 8],
+            items: [Pair::NONE; MOST_PAIRS],
         }
     }
 
     pub fn one(pair: Pair) -> Pairs
         ensures { result ≡ pairs (pair ∷ []) }
     {
-        let mut items = [Pair::NONE; 8];
+        let mut items = [Pair::NONE; MOST_PAIRS];
         items[0] = pair;
         Pairs { count: 1, items }
     }
@@ -49,7 +50,7 @@ impl Pairs {
         ensures is { result.now ≡ list_of self.now }
         ensures short { length result.now ≤ 8 }
     {
-        if self.count < 8 {
+        if (self.count as usize) < MOST_PAIRS {
             &self.items[0..self.count as usize]
         } else {
             &self.items

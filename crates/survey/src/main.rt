@@ -10,7 +10,6 @@ mod text;
 use anyhow::Result;
 use losses::{Family, finds_after, smallest_set};
 use quorum::{Majority, QuorumSystem, ReadOneWriteAll};
-use text::Servers;
 
 fn survey<Q: QuorumSystem>(rt: &impl Print, servers: &str, system: &Q) -> Result<()> {
     println!(rt; "  {servers}")?;
@@ -20,8 +19,8 @@ fn survey<Q: QuorumSystem>(rt: &impl Print, servers: &str, system: &Q) -> Result
         let writes = finds_after(system, Family::Write, lost)?;
         println!(rt; "    {lost} lost: reads {reads}, writes {writes}")?;
     }
-    let read = Servers(smallest_set(system, Family::Read)?);
-    let write = Servers(smallest_set(system, Family::Write)?);
+    let read = smallest_set(system, Family::Read)?;
+    let write = smallest_set(system, Family::Write)?;
     println!(rt; "    smallest read set: {read}")?;
     println!(rt; "    smallest write set: {write}")?;
     Ok(())

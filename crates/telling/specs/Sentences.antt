@@ -2,7 +2,8 @@
 use Rattle.std.specs.Prelude.{ℕ, List, ◌++◌, codes, decimal}
 use Rattle.rules.specs.declared.message.Message.{Message}
 use Rattle.rules.specs.declared.message.Message.TheVariants.{ClockQuestion, ClockAnswer, WriteRequest, WriteAnswer, ReadRequest, ReadAnswer, RenewalRequest, RenewalAnswer, Invalidation, InvalidationAnswer}
-use Rattle.telling.specs.Words.{write_name, read_name, input_name, output_name, version_text, versions_text, set_text, wanted_text, brought_text}
+use Rattle.quorum.specs.Words.{set_text}
+use Rattle.telling.specs.Words.{write_name, read_name, input_name, output_name, version_text, versions_text, wanted_text, brought_text}
 
 abbrev pub sender_text : Message → List ℕ
 sender_text (ClockQuestion p i) = write_name p

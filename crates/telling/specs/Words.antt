@@ -1,8 +1,7 @@
 -- The words for both ends of a message, and for what it carries.
-use Rattle.std.specs.Prelude.{ℕ, zero, suc, Bool, true, false, cond, List, [], ◌∷◌, ◌++◌, length, ◌==◌, codes, decimal, flat_map}
+use Rattle.std.specs.Prelude.{ℕ, cond, List, [], ◌∷◌, ◌++◌, length, ◌==◌, codes, decimal, flat_map}
 use Rattle.numbers.specs.declared.epoch.Epoch.{Epoch}
 use Rattle.numbers.specs.declared.time.Time.{Time}
-use Rattle.quorum.specs.Sets.{has}
 use Rattle.rules.specs.declared.pairs.Pair.{Pair}
 use Rattle.rules.specs.declared.pairs.Pairs.{Pairs}
 use Rattle.rules.specs.declared.parts.Parts.{Parts}
@@ -34,21 +33,6 @@ all_versions_text (p ∷ ps) = version_text p ++ flat_map next_version_text ps
 
 unfoldable pub versions_text : Pairs → List ℕ
 versions_text l = all_versions_text (list_of l)
-
-abbrev pub comma_after : Bool → List ℕ
-comma_after listed = cond listed (codes ", ") []
-
-abbrev pub is_listed : List ℕ → Bool
-is_listed [] = false
-is_listed (c ∷ cs) = true
-
--- the numbers in a set below n, rising
-abbrev pub below_text : ℕ → ℕ → List ℕ
-below_text s zero = []
-below_text s (suc n) = below_text s n ++ cond (has s n) (comma_after (is_listed (below_text s n)) ++ decimal n) []
-
-unfoldable pub set_text : ℕ → List ℕ
-set_text s = cond (s == 0) (codes "nobody") (below_text s 64)
 
 abbrev pub wanted_text : Parts → ℕ → List ℕ
 wanted_text Object o = codes "object " ++ decimal o

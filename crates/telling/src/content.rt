@@ -2,7 +2,6 @@
 ghost use Rattle.std.specs.Prelude.{Some};
 ghost use Rattle.telling.specs.Sentences.{content_text};
 
-use crate::members::Members;
 use crate::renewed::{Brought, Wanted};
 use crate::versions::{VersionOf, Versions};
 use rules::{Message, Pair};
@@ -28,11 +27,11 @@ impl<'a> fmt::Display for Content<'a> {
                 write!(f, " to hold {held}, value {value}")
             }
             Message::WriteAnswer { shut_out, .. } => {
-                write!(f, " and names as shut out: {}", Members(shut_out))
+                write!(f, " and names as shut out: {shut_out}")
             }
             Message::ReadRequest { object, .. } => write!(f, " for object {object}"),
             Message::ReadAnswer { version, value, .. } => {
-                write!(f, ": version {}, value {value}", version.0)
+                write!(f, ": version {version}, value {value}")
             }
             Message::RenewalRequest {
                 parts,
@@ -41,7 +40,7 @@ impl<'a> fmt::Display for Content<'a> {
                 ..
             } => {
                 let wanted = Wanted { parts, object };
-                write!(f, " for {wanted}, stamped {}", stamp.0)
+                write!(f, " for {wanted}, stamped {stamp}")
             }
             Message::RenewalAnswer {
                 parts,

@@ -50,6 +50,5 @@ impl fmt::Display for ToldEnd {
 fn tell_pair<W: fmt::Write>(f: &mut fmt::Formatter<W>, version: Version, value: u64) -> fmt::Result
     ensures { WritesOnOk W.write_str_gives f.old result (pair_text version value) f.new }
 {
-    let version = version.0;
     write!(f, " with version {version}, value {value}")
 }

@@ -4,7 +4,6 @@
 
 mod content;
 mod end;
-mod members;
 mod renewed;
 mod sentence;
 #[cfg(test)]

@@ -4,7 +4,7 @@ ghost use Rattle.std.specs.Fmt.{WritesOnOk};
 ghost use Rattle.telling.specs.Words.{wanted_text, copy_text, lease_text, news_text, brought_text};
 
 use crate::versions::{VersionOf, Versions};
-use numbers::{Epoch, Time, Version};
+use numbers::{Epoch, Time};
 use rules::{Pair, Pairs, Parts};
 use std::fmt;
 
@@ -60,7 +60,7 @@ impl Brought {
             return Ok(());
         }
         let length = self.length;
-        let stamp = self.stamp.0;
+        let stamp = self.stamp;
         write!(f, ", a lease of {length} from {stamp}")
     }
 
@@ -80,7 +80,7 @@ impl fmt::Display for Brought {
 
     #[tactic(auto, unfolding(crate::specs::Words::brought_text))]
     fn fmt<W: fmt::Write>(&self, f: &mut fmt::Formatter<W>) -> fmt::Result {
-        let epoch = self.epoch.0;
+        let epoch = self.epoch;
         write!(f, "epoch {epoch}")?;
         self.tell_copy(f)?;
         self.tell_lease(f)?;

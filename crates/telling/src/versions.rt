@@ -15,7 +15,7 @@ impl fmt::Display for VersionOf {
     #[tactic(auto, unfolding(crate::specs::Words::version_text))]
     fn fmt<W: fmt::Write>(&self, f: &mut fmt::Formatter<W>) -> fmt::Result {
         let object = self.0.object;
-        let version = self.0.version.0;
+        let version = self.0.version;
         write!(f, "version {version} of object {object}")
     }
 }

@@ -4,7 +4,7 @@
 
 mod stage;
 
-use anyhow::{Result, ensure};
+use anyhow::Result;
 use numbers::Version;
 use rules::Delivery;
 use stage::Stage;

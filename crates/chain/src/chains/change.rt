@@ -3,18 +3,19 @@ ghost use Rattle.rules.specs.Input.{queued, freed};
 ghost use Rattle.chain.specs.Records.{linked_records, linked_heads};
 ghost use Rattle.chain.specs.Waiting.{waiting_of, waiting_for, has_free, Found, Queues};
 
+use crate::chains::Chains;
 use crate::chains::walk::Place;
-use crate::chains::{Chains, OUTPUTS};
 use crate::queued::Queued;
 use crate::record::{END, RECORDS, Record};
 use numbers::{OutputNumber, Version};
-use rules::Pair;
+use rules::{Pair, SERVERS};
 use std::array;
 
+// No method of `Chains`: while records and heads are changed, its invariant does not hold.
 // Puts `next` behind `before` or, where that is END, at the head of the output server's chain.
 fn link(
     records: &mut [Record; RECORDS],
-    heads: &mut [u8; OUTPUTS],
+    heads: &mut [u8; SERVERS],
     output: OutputNumber,
     before: u8,
     next: u8,
@@ -42,7 +43,7 @@ impl Chains {
                 object: 0,
                 next: i as u8,
             }),
-            heads: [END; OUTPUTS],
+            heads: [END; SERVERS],
             free: RECORDS as u8,
         }
     }

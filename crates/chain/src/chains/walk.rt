@@ -8,13 +8,10 @@ ghost use Rattle.chain.specs.Waiting.{pairs_along, waiting_for, Found};
 use crate::chains::Chains;
 use crate::record::{END, Entry, RECORDS, Record};
 use numbers::OutputNumber;
-use rules::{Pair, Pairs};
-
-// The most pairs that a list shows.
-const SHOWN: usize = 8;
+use rules::{MOST_PAIRS, Pair, Pairs};
 
 // A place in a chain: the number of the record there, or END behind the last one, and the number of
-// the record before it, or END at the first one.
+// the record before it, or END at the first one. END, and no Option, as in the records that it links.
 #[derive(Clone, Copy)]
 pub(super) struct Place {
     pub(super) before: u8,
@@ -97,12 +94,12 @@ impl Chains {
     }
 
     // The first invalidations that wait for the output server, as many as a list shows.
-    // No heap, so nothing to collect them in: they are put into the list one by one.
+    // No heap, so nothing to collect them in: they are put one by one into the list, which keeps its own count.
     pub fn first(&self, output: OutputNumber) -> Pairs
         ensures { result ≡ pairs (take shown (waiting_for self.now output.number)) }
     {
         let mut list = Pairs::empty();
-        for entry in self.waiting(output).take(SHOWN) {
+        for entry in self.waiting(output).take(MOST_PAIRS) {
             list.items[list.count as usize] = entry.pair;
             list.count += 1;
         }
