@@ -148,6 +148,13 @@ fn numbers_at_the_ends_of_their_ranges(rt: HostRuntime) -> Result<(), Fail> {
 }
 
 #[test]
+fn out_of_range_in_words(rt: HostRuntime) -> Result<(), Fail> {
+    let text = format!(in rt.alloc(); "{}", OutOfRange)?;
+    assert_eq!(rt; text.as_str(), "a number is out of its range");
+    Ok(())
+}
+
+#[test]
 fn servers_and_objects_by_number(rt: HostRuntime) -> Result<(), Fail> {
     for number in [0, 7] {
         assert_eq!(rt; InputNumber::try_from(number)?.get(), number);

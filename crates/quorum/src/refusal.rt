@@ -1,75 +1,88 @@
-ghost use Rattle.std.specs.Prelude.{◌≡◌};
-ghost use Rattle.quorum.specs.Refusals.{number_of};
+ghost use Rattle.std.specs.Prelude.{◌≡◌, Some};
+ghost use Rattle.quorum.specs.Refusals.{number_of, text_of};
 
-use thiserror::Error;
+use std::error::Error;
+use std::fmt;
 
-// Why a call refuses. A refusal alters nothing, and is known outside by its number.
-#[derive(Clone, Copy, Debug, PartialEq, Eq, Error)]
+/// Why a call refuses. A refusal alters nothing. Outside it is known by its number, and prints its text.
+#[derive(Clone, Copy, Debug, PartialEq, Eq)]
 pub enum Refusal {
-    // opening a field that is open
-    #[error("the field is open already")]
+    /// Opening a field that is open.
     AlreadyOpen = 1,
-    // a system of more than 8 members on a side of a field
-    #[error("a quorum system has more than 8 members")]
+    /// A system of more than 8 members on a side of a field.
     TooManyMembers = 2,
-    // a count of objects outside 1 to 16
-    #[error("there are 1 to 16 objects")]
+    /// A count of objects outside 1 to 16.
     ObjectCount = 3,
-    // a lease length outside 1 to 1,000,000,000
-    #[error("a lease lasts 1 to 1,000,000,000 microseconds")]
+    /// A lease length outside 1 to 1,000,000,000.
     LeaseLength = 4,
-    // a drift above 999
-    #[error("a drift is at most 999 thousandths")]
+    /// A drift above 999.
     DriftRange = 5,
-    // not one start clock for each server, or one above 2^40
-    #[error("each server starts with a clock of at most 2^40")]
+    /// Not one start clock for each server, or one above 2^40.
     StartClocks = 6,
-    // a log outside 9 to 65,535 messages, or a table outside 1 to 1,024 operations
-    #[error("a log has 9 to 65,535 places, and a table 1 to 1,024")]
+    /// A log outside 9 to 65,535 messages, or a table outside 1 to 1,024 operations.
     Lengths = 7,
-    // a call before the field is open
-    #[error("the field is not open")]
+    /// A call before the field is open.
     NotOpen = 8,
-    // the length of log or table, or a member count, is not the one at opening
-    #[error("log, table or systems are not those of the opening")]
+    /// The length of log or table, or a member count, is not the one at opening.
     NotAsOpened = 9,
-    // a system of no members, or of more than 64
-    #[error("a quorum system has 1 to 64 members")]
+    /// A system of no members, or of more than 64.
     MemberCount = 10,
-    // not one increment for each server
-    #[error("an advance has one increment for each server")]
+    /// Not one increment for each server.
     IncrementCount = 11,
-    // a clock would pass 2^40
-    #[error("a clock would pass 2^40")]
+    /// A clock would pass 2^40.
     PastLastTime = 12,
-    // two increments break the drift
-    #[error("two increments break the drift")]
+    /// Two increments break the drift.
     DriftBroken = 13,
-    // an object number at or above the count
-    #[error("there is no such object")]
+    /// An object number at or above the count.
     NoSuchObject = 21,
-    // no place left in the table
-    #[error("the table has no place left")]
+    /// No place left in the table.
     TableFull = 22,
-    // fewer than 9 messages free when an operation begins
-    #[error("fewer than 9 places of the log are free to begin")]
+    /// Fewer than 9 messages free when an operation begins.
     NoRoomToBegin = 23,
-    // message number 0, or one not yet made
-    #[error("there is no such message")]
+    /// Message number 0, or one not yet made.
     NoSuchMessage = 31,
-    // fewer than 9 messages free when a message is delivered
-    #[error("fewer than 9 places of the log are free to deliver")]
+    /// Fewer than 9 messages free when a message is delivered.
     NoRoomToDeliver = 32,
-    // a number of the message, or of the operation that it names, is out of range
-    #[error("a number of the message, or of its operation, is out of range")]
+    /// A number of the message, or of the operation that it names, is out of range.
     OutOfRange = 33,
 }
 
 impl Refusal {
-    // What a refusal is called where it is printed. No call answers this number in its place.
+    /// The number by which a refusal is known outside, as `docs/RULES.md` lists them.
     pub fn number(self) -> u8
         ensures { result ≡ number_of self }
     {
         self as u8
     }
 }
+
+impl fmt::Display for Refusal {
+    ghost output = { λ r. Some (text_of r) };
+
+    fn fmt<W: fmt::Write>(&self, f: &mut fmt::Formatter<W>) -> fmt::Result {
+        let text = match self {
+            Refusal::AlreadyOpen => "the field is open already",
+            Refusal::TooManyMembers => "a quorum system has more than 8 members",
+            Refusal::ObjectCount => "there are 1 to 16 objects",
+            Refusal::LeaseLength => "a lease lasts 1 to 1,000,000,000 microseconds",
+            Refusal::DriftRange => "a drift is at most 999 thousandths",
+            Refusal::StartClocks => "each server starts with a clock of at most 2^40",
+            Refusal::Lengths => "a log has 9 to 65,535 places, and a table 1 to 1,024",
+            Refusal::NotOpen => "the field is not open",
+            Refusal::NotAsOpened => "log, table or systems are not those of the opening",
+            Refusal::MemberCount => "a quorum system has 1 to 64 members",
+            Refusal::IncrementCount => "an advance has one increment for each server",
+            Refusal::PastLastTime => "a clock would pass 2^40",
+            Refusal::DriftBroken => "two increments break the drift",
+            Refusal::NoSuchObject => "there is no such object",
+            Refusal::TableFull => "the table has no place left",
+            Refusal::NoRoomToBegin => "fewer than 9 places of the log are free to begin",
+            Refusal::NoSuchMessage => "there is no such message",
+            Refusal::NoRoomToDeliver => "fewer than 9 places of the log are free to deliver",
+            Refusal::OutOfRange => "a number of the message, or of its operation, is out of range",
+        };
+        f.write_str(text)
+    }
+}
+
+impl Error for Refusal {}

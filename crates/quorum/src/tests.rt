@@ -72,6 +72,27 @@ fn refusal_of<Q: Drop>(made: Result<Q, Refusal>) -> Option<u8> {
 }
 
 #[test]
+fn refusals_in_words(rt: HostRuntime) -> Result<(), Fail> {
+    for (refusal, number, expected) in [
+        (
+            Refusal::MemberCount,
+            10,
+            "a quorum system has 1 to 64 members",
+        ),
+        (
+            Refusal::Lengths,
+            7,
+            "a log has 9 to 65,535 places, and a table 1 to 1,024",
+        ),
+    ] {
+        let text = format!(in rt.alloc(); "{refusal}")?;
+        assert_eq!(rt; text.as_str(), expected);
+        assert_eq!(rt; refusal.number(), number);
+    }
+    Ok(())
+}
+
+#[test]
 fn counts_of_members(rt: HostRuntime) {
     let outside = Some(10);
     for (count, refusal) in [(0, outside), (1, None), (64, None), (65, outside)] {
