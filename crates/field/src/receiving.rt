@@ -165,7 +165,7 @@ impl Interior {
             value,
             epoch,
             stamp: Moment::try_from(stamp).unwrap(),
-            length: LeaseLength::try_from(length).unwrap(),
+            length: LeaseLength::try_from(u64::from(length)).unwrap(),
             list,
         };
         let mut log = Log::new(log, self.made);

@@ -17,7 +17,7 @@ fn field(
     log: usize,
     table: usize,
 ) -> Result<Bench<Majority, Majority>, Fail> {
-    let side = Majority::new(servers)?;
+    let side = Majority::new(u64::from(servers))?;
     let mut bench = Bench::new(Lent::new(alloc, side, side, log, table)?);
     let clocks = [Time::ZERO; 16];
     let both = 2 * usize::from(servers.min(8));

@@ -220,8 +220,8 @@ pub(crate) fn by_majority(
 ) -> Result<Bench<Majority, Majority>, Fail> {
     let lent = Lent::new(
         alloc,
-        Majority::new(inputs)?,
-        Majority::new(outputs)?,
+        Majority::new(u64::from(inputs))?,
+        Majority::new(u64::from(outputs))?,
         128,
         8,
     )?;

@@ -19,8 +19,8 @@ fn lent(
     log: usize,
     table: usize,
 ) -> Result<Lent<Majority, Majority>, Fail> {
-    let inputs = Majority::new(inputs)?;
-    let outputs = Majority::new(outputs)?;
+    let inputs = Majority::new(u64::from(inputs))?;
+    let outputs = Majority::new(u64::from(outputs))?;
     Ok(Lent::new(alloc, inputs, outputs, log, table)?)
 }
 

@@ -37,8 +37,8 @@ impl Trial<'_> {
 
     // A field that is not yet open, with what this trial lends it.
     fn bench(&self, alloc: Global) -> Result<Bench<Majority, Majority>, Fail> {
-        let inputs = Majority::new(self.inputs)?;
-        let outputs = Majority::new(self.outputs)?;
+        let inputs = Majority::new(u64::from(self.inputs))?;
+        let outputs = Majority::new(u64::from(self.outputs))?;
         let lent = Lent::new(alloc, inputs, outputs, self.log, self.table)?;
         Ok(Bench::new(lent))
     }

@@ -31,7 +31,7 @@ impl Stage {
             log: [Message::BLANK; 12],
             me: InputNumber::try_from(2)?,
             outputs: ServerCount::try_from(outputs)?,
-            lease: LeaseLength::try_from(LEASE)?,
+            lease: LeaseLength::try_from(u64::from(LEASE))?,
         })
     }
 

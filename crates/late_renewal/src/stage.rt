@@ -193,7 +193,7 @@ impl Stage {
             value: brought.value,
             epoch: brought.epoch,
             stamp: Moment::try_from(brought.stamp)?,
-            length: LeaseLength::try_from(brought.length)?,
+            length: LeaseLength::try_from(u64::from(brought.length))?,
             list: brought.list,
         };
         print!(rt; "reaches the output server")?;

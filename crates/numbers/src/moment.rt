@@ -82,14 +82,16 @@ impl Moment {
     }
 }
 
-impl TryFrom<u32> for LeaseLength {
+impl TryFrom<u64> for LeaseLength {
     type Error = OutOfRange;
 
     ghost try_from_gives = { λ x r. Checked (λ l. l.micros) (nat_le x 1000000000) x r };
 
-    fn try_from(micros: u32) -> Result<LeaseLength, OutOfRange> {
-        if micros <= LeaseLength::LONGEST {
-            Ok(LeaseLength { micros })
+    fn try_from(micros: u64) -> Result<LeaseLength, OutOfRange> {
+        if micros <= LeaseLength::LONGEST as u64 {
+            Ok(LeaseLength {
+                micros: micros as u32,
+            })
         } else {
             Err(OutOfRange)
         }
@@ -108,14 +110,16 @@ impl LeaseLength {
     }
 }
 
-impl TryFrom<u16> for Drift {
+impl TryFrom<u64> for Drift {
     type Error = OutOfRange;
 
     ghost try_from_gives = { λ x r. Checked (λ d. d.thousandths) (nat_le x 999) x r };
 
-    fn try_from(thousandths: u16) -> Result<Drift, OutOfRange> {
-        if thousandths <= Drift::HIGHEST {
-            Ok(Drift { thousandths })
+    fn try_from(thousandths: u64) -> Result<Drift, OutOfRange> {
+        if thousandths <= Drift::HIGHEST as u64 {
+            Ok(Drift {
+                thousandths: thousandths as u16,
+            })
         } else {
             Err(OutOfRange)
         }

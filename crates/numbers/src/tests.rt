@@ -90,7 +90,7 @@ fn epochs_and_times_in_order(rt: HostRuntime) {
     assert!(rt; !end.is_live_at(Time(1_491)));
 }
 
-fn lease_end(stamp: u64, length: u32, drift: u16) -> Result<Time, OutOfRange> {
+fn lease_end(stamp: u64, length: u64, drift: u64) -> Result<Time, OutOfRange> {
     let stamp = Moment::try_from(Time(stamp))?;
     Ok(stamp.lease_end(LeaseLength::try_from(length)?, Drift::try_from(drift)?))
 }
@@ -136,14 +136,21 @@ fn numbers_at_the_ends_of_their_ranges(rt: HostRuntime) -> Result<(), Fail> {
     }
     assert_eq!(rt; Moment::try_from(Time((1 << 40) + 1)), Err(OutOfRange));
     for micros in [0, 1_000_000_000] {
-        assert_eq!(rt; LeaseLength::try_from(micros)?.micros(), micros);
+        let length = LeaseLength::try_from(u64::from(micros))?;
+        assert_eq!(rt; length.micros(), micros);
     }
-    assert_eq!(rt; LeaseLength::try_from(1_000_000_001), Err(OutOfRange));
+    // the second is 1 in its lowest 32 places
+    for micros in [1_000_000_001, (1 << 32) + 1, u64::MAX] {
+        assert_eq!(rt; LeaseLength::try_from(micros), Err(OutOfRange));
+    }
     for thousandths in [0, 999] {
-        let drift = Drift::try_from(thousandths)?;
+        let drift = Drift::try_from(u64::from(thousandths))?;
         assert_eq!(rt; drift.thousandths(), thousandths);
     }
-    assert_eq!(rt; Drift::try_from(1_000), Err(OutOfRange));
+    // the second is 1 in its lowest 16 places
+    for thousandths in [1_000, (1 << 16) + 1, u64::MAX] {
+        assert_eq!(rt; Drift::try_from(thousandths), Err(OutOfRange));
+    }
     Ok(())
 }
 

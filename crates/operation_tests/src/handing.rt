@@ -75,8 +75,8 @@ pub(crate) fn last<I: QuorumSystem, O: QuorumSystem>(
 // Input servers by majority and output servers by read-one write-all.
 fn systems(inputs: u8, outputs: u8) -> Result<Systems<Majority, ReadOneWriteAll>, Refusal> {
     Ok(Systems {
-        inputs: Majority::new(inputs)?,
-        outputs: ReadOneWriteAll::new(outputs)?,
+        inputs: Majority::new(u64::from(inputs))?,
+        outputs: ReadOneWriteAll::new(u64::from(outputs))?,
     })
 }
 

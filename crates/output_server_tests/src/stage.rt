@@ -38,7 +38,7 @@ impl Stage {
         Ok(Stage {
             server: OutputServer::new(clock),
             log: [Message::BLANK; 12],
-            inputs: Majority::new(inputs)?,
+            inputs: Majority::new(u64::from(inputs))?,
             me: OutputNumber::try_from(4)?,
             object: ObjectNumber::try_from(3)?,
             drift: Drift::try_from(10)?,
@@ -77,7 +77,7 @@ impl Stage {
             value: answer.value,
             epoch: Epoch(answer.epoch),
             stamp: Moment::try_from(Time(answer.stamp))?,
-            length: LeaseLength::try_from(answer.length)?,
+            length: LeaseLength::try_from(u64::from(answer.length))?,
             list: answer.list,
         };
         let mut log = Log::new(&mut self.log, 0);

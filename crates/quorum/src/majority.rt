@@ -15,7 +15,7 @@ pub struct Majority {
 }
 
 impl Majority {
-    pub fn new(count: u8) -> Result<Majority, Refusal>
+    pub fn new(count: u64) -> Result<Majority, Refusal>
         ensures { Made (λ q. q.members.count) count result }
     {
         Ok(Majority {

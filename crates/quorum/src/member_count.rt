@@ -10,16 +10,16 @@ pub struct MemberCount {
     ghost counted: { (1 ≤ count) × (count ≤ 64) },
 }
 
-impl TryFrom<u8> for MemberCount {
+impl TryFrom<u64> for MemberCount {
     type Error = Refusal;
 
     ghost try_from_gives = { λ n r. Made (λ c. c.count) n r };
 
-    fn try_from(count: u8) -> Result<MemberCount, Refusal> {
+    fn try_from(count: u64) -> Result<MemberCount, Refusal> {
         if count < 1 || count > 64 {
             return Err(Refusal::MemberCount);
         }
-        Ok(MemberCount { count })
+        Ok(MemberCount { count: count as u8 })
     }
 }
 

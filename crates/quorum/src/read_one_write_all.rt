@@ -15,7 +15,7 @@ pub struct ReadOneWriteAll {
 }
 
 impl ReadOneWriteAll {
-    pub fn new(count: u8) -> Result<ReadOneWriteAll, Refusal>
+    pub fn new(count: u64) -> Result<ReadOneWriteAll, Refusal>
         ensures { Made (λ q. q.members.count) count result }
     {
         Ok(ReadOneWriteAll {

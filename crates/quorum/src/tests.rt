@@ -95,7 +95,17 @@ fn refusals_in_words(rt: HostRuntime) -> Result<(), Fail> {
 #[test]
 fn counts_of_members(rt: HostRuntime) {
     let outside = Some(10);
-    for (count, refusal) in [(0, outside), (1, None), (64, None), (65, outside)] {
+    // 2^8 and 2^64 - 1 are not taken for the numbers that their lowest eight places would be
+    for (count, refusal) in [
+        (0, outside),
+        (1, None),
+        (64, None),
+        (65, outside),
+        (255, outside),
+        (256, outside),
+        (257, outside),
+        (u64::MAX, outside),
+    ] {
         assert_eq!(rt; refusal_of(Majority::new(count)), refusal);
         assert_eq!(rt; refusal_of(ReadOneWriteAll::new(count)), refusal);
     }

@@ -26,7 +26,7 @@ fn survey<Q: QuorumSystem>(rt: &impl Print, servers: &str, system: &Q) -> Result
     Ok(())
 }
 
-fn layout(rt: &impl Print, inputs: u8, outputs: u8) -> Result<()> {
+fn layout(rt: &impl Print, inputs: u64, outputs: u64) -> Result<()> {
     println!(rt)?;
     println!(rt; "Inputs: {inputs}, by majority. Outputs: {outputs}, by read-one write-all.")?;
     survey(rt, "inputs", &Majority::new(inputs)?)?;

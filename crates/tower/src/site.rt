@@ -50,8 +50,8 @@ impl Site {
             log: (0..2_048).map(|_| blank_message()).collect(alloc)?,
             table: (0..128).map(|_| blank_operation()).collect(alloc)?,
             systems: Systems {
-                inputs: Majority::new(SERVERS)?,
-                outputs: ReadOneWriteAll::new(SERVERS)?,
+                inputs: Majority::new(SERVERS as u64)?,
+                outputs: ReadOneWriteAll::new(SERVERS as u64)?,
             },
         };
         let opening = Opening {
