@@ -1,12 +1,14 @@
 // What an opening takes: every range at its edges, and which refusal comes first.
-use crate::bench::{Bench, Lent, Looks, Place, opening, refusal};
-use crate::messages::clock_answer;
 use field::Opening;
+use field_bench::messages::clock_answer;
+use field_bench::{
+    Bench, Lent, Looks, Place, closed, expect_refusal, expect_same, opening, refusal,
+};
 use numbers::Time;
 use operation::Operation;
 use quorum::Majority;
 use std::alloc::Global;
-use std::process::Abort;
+use std::fmt::Display;
 use std::test::Fail;
 
 const LAST_TIME: Time = Time(1_099_511_627_776);
@@ -37,17 +39,19 @@ impl Trial<'_> {
 
     // A field that is not yet open, with what this trial lends it.
     fn bench(&self, alloc: Global) -> Result<Bench<Majority, Majority>, Fail> {
-        let inputs = Majority::new(u64::from(self.inputs))?;
-        let outputs = Majority::new(u64::from(self.outputs))?;
-        let lent = Lent::new(alloc, inputs, outputs, self.log, self.table)?;
-        Ok(Bench::new(lent))
+        closed(alloc, self.inputs, self.outputs, self.log, self.table)
     }
 
-    // The number by which the opening is refused, if it is.
-    fn refused(&self, alloc: Global) -> Result<Option<u8>, Fail> {
+    // That the opening is refused by that number, or by none.
+    fn expect(
+        &self,
+        place: impl Display + Drop,
+        alloc: Global,
+        refused: Option<u8>,
+    ) -> Result<(), Fail> {
         let mut bench = self.bench(alloc)?;
         let said = bench.open(self.opening(), self.clocks);
-        Ok(refusal(said))
+        expect_same(place, &refusal(said), &refused)
     }
 }
 
@@ -80,11 +84,7 @@ fn one_to_eight_members(rt: HostRuntime) -> Result<(), Fail> {
             clocks: &clocks,
             ..fitting()
         };
-        assert_eq!(rt;
-            trial.refused(rt.alloc())?,
-            refused,
-            "{inputs} and {outputs}"
-        );
+        trial.expect(format_args!("{inputs} and {outputs}"), rt.alloc(), refused)?;
     }
     Ok(())
 }
@@ -103,7 +103,7 @@ fn one_to_sixteen_objects(rt: HostRuntime) -> Result<(), Fail> {
             objects,
             ..fitting()
         };
-        assert_eq!(rt; trial.refused(rt.alloc())?, refused, "{objects} objects");
+        trial.expect(format_args!("{objects} objects"), rt.alloc(), refused)?;
     }
     Ok(())
 }
@@ -119,7 +119,7 @@ fn leases_of_up_to_a_thousand_seconds(rt: HostRuntime) -> Result<(), Fail> {
         (u64::MAX, Some(4)),
     ] {
         let trial = Trial { lease, ..fitting() };
-        assert_eq!(rt; trial.refused(rt.alloc())?, refused, "a lease of {lease}");
+        trial.expect(format_args!("a lease of {lease}"), rt.alloc(), refused)?;
     }
     Ok(())
 }
@@ -134,64 +134,39 @@ fn drifts_of_up_to_999(rt: HostRuntime) -> Result<(), Fail> {
         (u64::MAX, Some(5)),
     ] {
         let trial = Trial { drift, ..fitting() };
-        assert_eq!(rt; trial.refused(rt.alloc())?, refused, "a drift of {drift}");
+        trial.expect(format_args!("a drift of {drift}"), rt.alloc(), refused)?;
     }
     Ok(())
 }
 
 // What comes of these start clocks where there are three servers.
-fn starts(
-    rt: &impl Abort,
-    alloc: Global,
-    clocks: &[Time],
-    refused: Option<u8>,
-) -> Result<(), Fail> {
+fn starts(alloc: Global, clocks: &[Time], refused: Option<u8>) -> Result<(), Fail> {
     let trial = Trial {
         outputs: 2,
         clocks,
         ..fitting()
     };
-    assert_eq!(rt; trial.refused(alloc)?, refused, "{clocks:?}");
+    trial.expect(format_args!("{clocks:?}"), alloc, refused)?;
     Ok(())
 }
 
 #[test]
 fn one_start_clock_for_each_server(rt: HostRuntime) -> Result<(), Fail> {
     let alloc = rt.alloc();
-    starts(&rt, alloc, &[], Some(6))?;
-    starts(&rt, alloc, &[Time::ZERO; 2], Some(6))?;
-    starts(&rt, alloc, &[Time::ZERO; 3], None)?;
-    starts(&rt, alloc, &[Time::ZERO; 4], Some(6))
+    starts(alloc, &[], Some(6))?;
+    starts(alloc, &[Time::ZERO; 2], Some(6))?;
+    starts(alloc, &[Time::ZERO; 3], None)?;
+    starts(alloc, &[Time::ZERO; 4], Some(6))
 }
 
 #[test]
 fn start_clocks_up_to_the_last_time(rt: HostRuntime) -> Result<(), Fail> {
     let alloc = rt.alloc();
-    starts(&rt, alloc, &[LAST_TIME; 3], None)?;
-    starts(
-        &rt,
-        alloc,
-        &[PAST_LAST_TIME, Time::ZERO, Time::ZERO],
-        Some(6),
-    )?;
-    starts(
-        &rt,
-        alloc,
-        &[Time::ZERO, PAST_LAST_TIME, Time::ZERO],
-        Some(6),
-    )?;
-    starts(
-        &rt,
-        alloc,
-        &[Time::ZERO, Time::ZERO, PAST_LAST_TIME],
-        Some(6),
-    )?;
-    starts(
-        &rt,
-        alloc,
-        &[Time::ZERO, Time::ZERO, Time(u64::MAX)],
-        Some(6),
-    )
+    starts(alloc, &[LAST_TIME; 3], None)?;
+    starts(alloc, &[PAST_LAST_TIME, Time::ZERO, Time::ZERO], Some(6))?;
+    starts(alloc, &[Time::ZERO, PAST_LAST_TIME, Time::ZERO], Some(6))?;
+    starts(alloc, &[Time::ZERO, Time::ZERO, PAST_LAST_TIME], Some(6))?;
+    starts(alloc, &[Time::ZERO, Time::ZERO, Time(u64::MAX)], Some(6))
 }
 
 #[test]
@@ -204,7 +179,7 @@ fn logs_of_9_to_65535(rt: HostRuntime) -> Result<(), Fail> {
         (65_536, Some(7)),
     ] {
         let trial = Trial { log, ..fitting() };
-        assert_eq!(rt; trial.refused(rt.alloc())?, refused, "a log of {log}");
+        trial.expect(format_args!("a log of {log}"), rt.alloc(), refused)?;
     }
     Ok(())
 }
@@ -213,7 +188,7 @@ fn logs_of_9_to_65535(rt: HostRuntime) -> Result<(), Fail> {
 fn tables_of_1_to_1024(rt: HostRuntime) -> Result<(), Fail> {
     for (table, refused) in [(0, Some(7)), (1, None), (1_024, None), (1_025, Some(7))] {
         let trial = Trial { table, ..fitting() };
-        assert_eq!(rt; trial.refused(rt.alloc())?, refused, "a table of {table}");
+        trial.expect(format_args!("a table of {table}"), rt.alloc(), refused)?;
     }
     Ok(())
 }
@@ -257,7 +232,7 @@ fn the_first_range_that_is_broken_counts(rt: HostRuntime) -> Result<(), Fail> {
         (log, Some(7)),
         (table, None),
     ] {
-        assert_eq!(rt; trial.refused(rt.alloc())?, refused);
+        trial.expect("the first", rt.alloc(), refused)?;
     }
     Ok(())
 }
@@ -295,11 +270,10 @@ fn a_refused_opening_leaves_the_field_unopened(rt: HostRuntime) -> Result<(), Fa
     let trial = of_three();
     let mut bench = trial.bench(rt.alloc())?;
     let said = bench.open(trial.opening(), &[Time::ZERO; 2]);
-    assert_eq!(rt; refusal(said), Some(6));
-    assert_eq!(rt; bench.looks(), UNOPENED);
+    expect_refusal(said, 6)?;
+    bench.expect_looks(UNOPENED)?;
     bench.open(trial.opening(), trial.clocks)?;
-    assert_eq!(rt; bench.looks(), OPENED);
-    Ok(())
+    bench.expect_looks(OPENED)
 }
 
 // Whatever else is wrong with the second opening.
@@ -308,13 +282,12 @@ fn a_field_is_opened_once(rt: HostRuntime) -> Result<(), Fail> {
     let trial = of_three();
     let mut bench = trial.bench(rt.alloc())?;
     bench.open(trial.opening(), trial.clocks)?;
-    assert_eq!(rt; refusal(bench.open(trial.opening(), trial.clocks)), Some(1));
-    assert_eq!(rt; refusal(bench.open(opening(0), &[])), Some(1));
+    expect_refusal(bench.open(trial.opening(), trial.clocks), 1)?;
+    expect_refusal(bench.open(opening(0), &[]), 1)?;
     bench.lent = Lent::new(rt.alloc(), Majority::new(9)?, Majority::new(9)?, 8, 0)?;
-    assert_eq!(rt; refusal(bench.open(opening(0), &[])), Some(1));
-    assert_eq!(rt; bench.looks(), OPENED);
-    assert_eq!(rt; bench.field.input_clock(1), Some(Time(6)));
-    Ok(())
+    expect_refusal(bench.open(opening(0), &[]), 1)?;
+    bench.expect_looks(OPENED)?;
+    bench.expect_clocks(1, [Some(Time(6)), None])
 }
 
 #[test]
@@ -322,22 +295,13 @@ fn clocks_that_are_seen(rt: HostRuntime) -> Result<(), Fail> {
     let trial = of_three();
     let mut bench = trial.bench(rt.alloc())?;
     for number in [0, 7, 255] {
-        assert_eq!(rt; bench.field.input_clock(number), None);
-        assert_eq!(rt; bench.field.output_clock(number), None);
+        bench.expect_clocks(number, [None; 2])?;
     }
     bench.open(trial.opening(), trial.clocks)?;
-    let field = &bench.field;
-    for (number, clock) in [
-        (0, Some(Time(5))),
-        (1, Some(Time(6))),
-        (2, None),
-        (255, None),
-    ] {
-        assert_eq!(rt; field.input_clock(number), clock, "input server {number}");
-    }
-    for (number, clock) in [(0, Some(LAST_TIME)), (1, None), (2, None), (255, None)] {
-        assert_eq!(rt; field.output_clock(number), clock, "output server {number}");
-    }
+    bench.expect_clocks(0, [Some(Time(5)), Some(LAST_TIME)])?;
+    bench.expect_clocks(1, [Some(Time(6)), None])?;
+    bench.expect_clocks(2, [None; 2])?;
+    bench.expect_clocks(255, [None; 2])?;
     Ok(())
 }
 
@@ -349,8 +313,7 @@ fn an_opening_writes_neither_log_nor_table(rt: HostRuntime) -> Result<(), Fail> 
     bench.put(9, clock_answer(9, 8, 7));
     bench.put_state(1, Operation::Ended);
     bench.open(trial.opening(), trial.clocks)?;
-    bench.expect(&rt, 1, clock_answer(7, 8, 9));
-    bench.expect(&rt, 9, clock_answer(9, 8, 7));
-    assert_eq!(rt; bench.place(1), Some(Place::Ended));
-    Ok(())
+    bench.expect(1, clock_answer(7, 8, 9))?;
+    bench.expect(9, clock_answer(9, 8, 7))?;
+    bench.expect_place(1, Place::Ended)
 }

@@ -1,14 +1,14 @@
 // Messages of any numbers, put into the log by the caller: which are delivered, and which are refused
 // as out of range. There are two servers on each side, and two objects; operation 1, a write, is begun.
-use crate::bench::{by_majority, refusal, with_a_write};
-use crate::messages::{
+use field_bench::messages::{
     Renewal, clock_answer, clock_question, counted, invalidation, invalidation_answer, list_of,
-    naming, read_answer, read_request, renewal_request, write_answer, write_request,
+    naming, read_answer, read_ended, read_request, renewal_request, write_answer, write_ended,
+    write_request,
 };
+use field_bench::{by_majority, expect_same, refusal, with_a_write};
 use numbers::Version;
-use rules::{Delivery, Message, Pairs, Parts};
+use rules::{Message, Pairs, Parts};
 use std::alloc::Global;
-use std::process::Abort;
 use std::test::Fail;
 
 const LAST_TIME: u64 = 1_099_511_627_776;
@@ -20,25 +20,24 @@ const LAST: Version = Version(4_294_967_295);
 const BELOW_FIRST: Version = Version(65_535);
 
 // None of these can be delivered in the place of message 1, and none leaves anything behind.
-fn none_passes(rt: &impl Abort, alloc: Global, messages: &mut [Message]) -> Result<(), Fail> {
+fn none_passes(alloc: Global, messages: &mut [Message]) -> Result<(), Fail> {
     let mut bench = with_a_write(alloc)?;
     let before = bench.looks();
     for message in messages {
         bench.swap(1, message);
-        let said = refusal(bench.deliver(1));
-        assert_eq!(rt; said, Some(33), "{:?}", bench.lent.log.first());
-        assert_eq!(rt; bench.looks(), before);
+        bench.expect_refused(&[1], 33)?;
+        bench.expect_looks(before)?;
     }
     Ok(())
 }
 
 // Each of these is delivered in the place of message 1 of a field of its own.
-fn each_passes(rt: &impl Abort, alloc: Global, messages: &mut [Message]) -> Result<(), Fail> {
+fn each_passes(alloc: Global, messages: &mut [Message]) -> Result<(), Fail> {
     for message in messages {
         let mut bench = with_a_write(alloc)?;
         bench.swap(1, message);
         let said = refusal(bench.deliver(1));
-        assert_eq!(rt; said, None, "{:?}", bench.lent.log.first());
+        expect_same(format_args!("{:?}", bench.lent.log.first()), &said, &None)?;
     }
     Ok(())
 }
@@ -55,7 +54,7 @@ fn servers_of_operations(rt: HostRuntime) -> Result<(), Fail> {
         clock_question(1, 255),
         read_request(1, 255, 0),
     ];
-    none_passes(&rt, rt.alloc(), &mut messages)
+    none_passes(rt.alloc(), &mut messages)
 }
 
 #[test]
@@ -71,7 +70,7 @@ fn servers_of_servers(rt: HostRuntime) -> Result<(), Fail> {
         invalidation_answer(2, 0, Pairs::empty()),
         invalidation_answer(0, 2, Pairs::empty()),
     ];
-    none_passes(&rt, rt.alloc(), &mut messages)
+    none_passes(rt.alloc(), &mut messages)
 }
 
 #[test]
@@ -88,7 +87,7 @@ fn objects(rt: HostRuntime) -> Result<(), Fail> {
         invalidation(0, 0, 2, FIRST),
         invalidation_answer(0, 0, list_of(2, FIRST)),
     ];
-    none_passes(&rt, rt.alloc(), &mut messages)
+    none_passes(rt.alloc(), &mut messages)
 }
 
 #[test]
@@ -105,7 +104,7 @@ fn versions(rt: HostRuntime) -> Result<(), Fail> {
         invalidation(0, 0, 0, BELOW_FIRST),
         invalidation_answer(0, 0, list_of(0, BELOW_FIRST)),
     ];
-    none_passes(&rt, rt.alloc(), &mut messages)
+    none_passes(rt.alloc(), &mut messages)
 }
 
 #[test]
@@ -117,7 +116,7 @@ fn clocks_and_sets(rt: HostRuntime) -> Result<(), Fail> {
         write_answer(0, 1, 0b111),
         write_answer(0, 1, u64::MAX),
     ];
-    none_passes(&rt, rt.alloc(), &mut messages)
+    none_passes(rt.alloc(), &mut messages)
 }
 
 // A renewal answer of both parts with one number changed.
@@ -145,7 +144,7 @@ fn numbers_of_renewals(rt: HostRuntime) -> Result<(), Fail> {
             ..good
         }),
     ];
-    none_passes(&rt, rt.alloc(), &mut messages)
+    none_passes(rt.alloc(), &mut messages)
 }
 
 #[test]
@@ -157,7 +156,7 @@ fn lists(rt: HostRuntime) -> Result<(), Fail> {
         invalidation_answer(0, 0, counted(255, 0, FIRST)),
         invalidation_answer(0, 0, counted(8, 2, FIRST)),
     ];
-    none_passes(&rt, rt.alloc(), &mut messages)
+    none_passes(rt.alloc(), &mut messages)
 }
 
 #[test]
@@ -179,17 +178,17 @@ fn parts_that_were_not_asked_for(rt: HostRuntime) -> Result<(), Fail> {
         }),
         changed(Renewal { value: 1, ..volume }),
     ];
-    none_passes(&rt, rt.alloc(), &mut messages)?;
-    each_passes(&rt, rt.alloc(), &mut [changed(object), changed(volume)])
+    none_passes(rt.alloc(), &mut messages)?;
+    each_passes(rt.alloc(), &mut [changed(object), changed(volume)])
 }
 
 #[test]
 fn operations_that_are_begun(rt: HostRuntime) -> Result<(), Fail> {
-    each_passes(&rt, rt.alloc(), &mut naming(1))?;
-    none_passes(&rt, rt.alloc(), &mut naming(0))?;
-    none_passes(&rt, rt.alloc(), &mut naming(2))?;
-    none_passes(&rt, rt.alloc(), &mut naming(9))?;
-    none_passes(&rt, rt.alloc(), &mut naming(65_535))
+    each_passes(rt.alloc(), &mut naming(1))?;
+    none_passes(rt.alloc(), &mut naming(0))?;
+    none_passes(rt.alloc(), &mut naming(2))?;
+    none_passes(rt.alloc(), &mut naming(9))?;
+    none_passes(rt.alloc(), &mut naming(65_535))
 }
 
 #[test]
@@ -202,7 +201,7 @@ fn highest_numbers_of_operations(rt: HostRuntime) -> Result<(), Fail> {
         read_request(1, 1, 1),
         read_answer(1, 1, LAST, u64::MAX),
     ];
-    each_passes(&rt, rt.alloc(), &mut messages)
+    each_passes(rt.alloc(), &mut messages)
 }
 
 #[test]
@@ -220,7 +219,7 @@ fn highest_numbers_of_servers(rt: HostRuntime) -> Result<(), Fail> {
         invalidation(1, 1, 1, LAST),
         invalidation_answer(1, 1, counted(8, 1, LAST)),
     ];
-    each_passes(&rt, rt.alloc(), &mut messages)
+    each_passes(rt.alloc(), &mut messages)
 }
 
 // What lies elsewhere in the log is not looked at.
@@ -229,19 +228,14 @@ fn other_messages_do_not_matter(rt: HostRuntime) -> Result<(), Fail> {
     let mut bench = with_a_write(rt.alloc())?;
     bench.put(2, clock_answer(9, 9, 0));
     bench.put(100, clock_answer(9, 9, 0));
-    bench.nothing_ends(&rt, &[1])?;
-    bench.expect_last(&rt, 2, &[clock_answer(9, 9, 0), clock_answer(0, 1, 1)]);
-    assert_eq!(rt; refusal(bench.deliver(2)), Some(33));
-    Ok(())
+    bench.nothing_ends(&[1])?;
+    bench.expect_last(2, &[clock_answer(9, 9, 0), clock_answer(0, 1, 1)])?;
+    bench.expect_refused(&[2], 33)
 }
 
 // ---- the highest clocks
 
-const HIGHEST: Delivery = Delivery::WriteEnded {
-    operation: 1,
-    version: Version(4_294_901_761),
-    value: 7,
-};
+const HIGHEST: Version = Version(4_294_901_761);
 
 // The highest clock that can be answered gives the write the clock 65,535, and leaves none for another.
 #[test]
@@ -249,13 +243,12 @@ fn the_last_clock(rt: HostRuntime) -> Result<(), Fail> {
     let mut bench = by_majority(rt.alloc(), 1, 1)?;
     bench.write(0, 7)?;
     bench.put(1, clock_answer(0, 1, 65_534));
-    bench.nothing_ends(&rt, &[1, 2])?;
-    assert_eq!(rt; bench.deliver(3)?, HIGHEST);
-    assert_eq!(rt; bench.write(0, 8)?, 2);
-    bench.nothing_ends(&rt, &[4])?;
-    bench.expect_last(&rt, 5, &[clock_answer(0, 2, 65_535)]);
-    assert_eq!(rt; refusal(bench.deliver(5)), Some(33));
-    Ok(())
+    bench.nothing_ends(&[1, 2])?;
+    bench.expect_end(3, write_ended(1, HIGHEST, 7))?;
+    bench.expect_write(0, 8, 2)?;
+    bench.nothing_ends(&[4])?;
+    bench.expect_last(5, &[clock_answer(0, 2, 65_535)])?;
+    bench.expect_refused(&[5], 33)
 }
 
 // A request of the highest version is taken, and nothing can be written above it. It is read.
@@ -264,18 +257,12 @@ fn the_last_version(rt: HostRuntime) -> Result<(), Fail> {
     let mut bench = by_majority(rt.alloc(), 1, 1)?;
     bench.write(0, 7)?;
     bench.put(1, write_request(1, 0, 0, LAST, 9));
-    bench.nothing_ends(&rt, &[1, 2])?;
+    bench.nothing_ends(&[1, 2])?;
     bench.put(2, clock_question(1, 0));
-    bench.nothing_ends(&rt, &[2])?;
-    bench.expect_last(&rt, 3, &[clock_answer(0, 1, 65_535)]);
-    assert_eq!(rt; refusal(bench.deliver(3)), Some(33));
+    bench.nothing_ends(&[2])?;
+    bench.expect_last(3, &[clock_answer(0, 1, 65_535)])?;
+    bench.expect_refused(&[3], 33)?;
     bench.read(0)?;
-    bench.nothing_ends(&rt, &[4, 5, 6, 4])?;
-    let ended = Delivery::ReadEnded {
-        operation: 2,
-        version: LAST,
-        value: 9,
-    };
-    assert_eq!(rt; bench.deliver(7)?, ended);
-    Ok(())
+    bench.nothing_ends(&[4, 5, 6, 4])?;
+    bench.expect_end(7, read_ended(2, LAST, 9))
 }

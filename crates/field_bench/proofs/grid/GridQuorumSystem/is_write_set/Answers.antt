@@ -2,8 +2,8 @@ use Rattle.std.proofs.Common.{rules, tests, ◌≡◌, ◌^◌, ◌*◌, Bool, t
 use Rattle.std.specs.List.{list_any, range_with_len}
 use Rattle.std.proofs.lemmas.Iterator.{YieldsList-from_range}
 use Rattle.std.proofs.lemmas.Iterator.Search.{any_from_yields_List}
-use Rattle.field_tests.specs.Grids.{fills}
-use Rattle.field_tests.proofs.grid.GridQuorumSystem.is_write_set.Goals as goal
+use Rattle.field_bench.specs.Grids.{fills}
+use Rattle.field_bench.proofs.grid.GridQuorumSystem.is_write_set.Goals as goal
 
 pub returns-then-is_within : goal.returns-then-is_within
 returns-then-is_within c =

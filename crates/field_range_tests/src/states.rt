@@ -1,17 +1,16 @@
 // States of operations, put into the table by the caller: which are refused as out of range, and that a
 // field goes on from those that are not. There are two servers on each side, and two objects; the table
 // has one operation, a write.
-use crate::bench::{Place, refusal, with_a_write};
-use crate::messages::{
-    Renewal, clock_answer, invalidation, invalidation_answer, naming, read_answer, renewal_request,
-    write_answer, write_request,
+use field_bench::messages::{
+    Renewal, clock_answer, invalidation, invalidation_answer, naming, read_answer, read_ended,
+    renewal_request, write_answer, write_ended, write_request,
 };
+use field_bench::{Place, expect_same, with_a_write};
 use numbers::Version;
 use operation::{AskingStep, AskingWrite, Operation, Read, SendingWrite, Step};
 use quorum::{Majority, ReadOneWriteAll, Refusal, Systems};
-use rules::{Delivery, Pairs, Parts};
+use rules::{Pairs, Parts};
 use std::alloc::Global;
-use std::process::Abort;
 use std::test::Fail;
 
 const FIRST: Version = Version::STARTING;
@@ -76,56 +75,47 @@ fn reading(operation: u16, object: u8, output: u8) -> Result<Operation, Refusal>
 // ---- what is refused
 
 // With that state in the place of operation 1 no message that names it is delivered.
-fn refused(rt: &impl Abort, alloc: Global, state: Operation) -> Result<(), Fail> {
+fn refused(alloc: Global, state: Operation) -> Result<(), Fail> {
     let mut bench = with_a_write(alloc)?;
     bench.put_state(1, state);
     let (looks, place) = (bench.looks(), bench.place(1));
     for message in naming(1) {
         bench.put(1, message);
-        let said = refusal(bench.deliver(1));
-        assert_eq!(rt; said, Some(33), "{:?}", bench.lent.log.first());
-        assert_eq!(rt; bench.looks(), looks);
-        assert_eq!(rt; bench.place(1), place);
+        bench.expect_refused(&[1], 33)?;
+        bench.expect_looks(looks)?;
+        expect_same("the place", &bench.place(1), &place)?;
     }
     Ok(())
 }
 
 #[test]
 fn a_state_of_another_operation(rt: HostRuntime) -> Result<(), Fail> {
-    refused(&rt, rt.alloc(), asking(2, 0, 0)?)?;
-    refused(&rt, rt.alloc(), sending(2, 0, 0, 0b01)?)?;
-    refused(&rt, rt.alloc(), reading(2, 0, 0)?)?;
-    refused(
-        &rt,
-        rt.alloc(),
-        Operation::Asking(AskingWrite::new(0, 0, 7)),
-    )?;
-    refused(&rt, rt.alloc(), Operation::Reading(Read::new(65_535, 0)))
+    refused(rt.alloc(), asking(2, 0, 0)?)?;
+    refused(rt.alloc(), sending(2, 0, 0, 0b01)?)?;
+    refused(rt.alloc(), reading(2, 0, 0)?)?;
+    refused(rt.alloc(), Operation::Asking(AskingWrite::new(0, 0, 7)))?;
+    refused(rt.alloc(), Operation::Reading(Read::new(65_535, 0)))
 }
 
 #[test]
 fn a_state_with_an_object_that_there_is_not(rt: HostRuntime) -> Result<(), Fail> {
-    refused(&rt, rt.alloc(), asking(1, 2, 0)?)?;
-    refused(&rt, rt.alloc(), sending(1, 2, 0, 0b01)?)?;
-    refused(&rt, rt.alloc(), reading(1, 2, 0)?)?;
-    refused(
-        &rt,
-        rt.alloc(),
-        Operation::Asking(AskingWrite::new(1, 255, 7)),
-    )
+    refused(rt.alloc(), asking(1, 2, 0)?)?;
+    refused(rt.alloc(), sending(1, 2, 0, 0b01)?)?;
+    refused(rt.alloc(), reading(1, 2, 0)?)?;
+    refused(rt.alloc(), Operation::Asking(AskingWrite::new(1, 255, 7)))
 }
 
 #[test]
 fn sets_with_servers_that_there_are_not(rt: HostRuntime) -> Result<(), Fail> {
-    refused(&rt, rt.alloc(), asking(1, 0, 2)?)?;
-    refused(&rt, rt.alloc(), asking(1, 0, 7)?)?;
+    refused(rt.alloc(), asking(1, 0, 2)?)?;
+    refused(rt.alloc(), asking(1, 0, 7)?)?;
     // an input server that named any, and an output server that was named
-    refused(&rt, rt.alloc(), sending(1, 0, 2, 0b01)?)?;
-    refused(&rt, rt.alloc(), sending(1, 0, 7, 0b01)?)?;
-    refused(&rt, rt.alloc(), sending(1, 0, 0, 0b100)?)?;
-    refused(&rt, rt.alloc(), sending(1, 0, 1, 0b1000_0000)?)?;
-    refused(&rt, rt.alloc(), reading(1, 0, 2)?)?;
-    refused(&rt, rt.alloc(), reading(1, 0, 7)?)
+    refused(rt.alloc(), sending(1, 0, 2, 0b01)?)?;
+    refused(rt.alloc(), sending(1, 0, 7, 0b01)?)?;
+    refused(rt.alloc(), sending(1, 0, 0, 0b100)?)?;
+    refused(rt.alloc(), sending(1, 0, 1, 0b1000_0000)?)?;
+    refused(rt.alloc(), reading(1, 0, 2)?)?;
+    refused(rt.alloc(), reading(1, 0, 7)?)
 }
 
 // Messages between servers do not ask for an operation.
@@ -140,20 +130,12 @@ fn servers_go_on_without_it(rt: HostRuntime) -> Result<(), Fail> {
         invalidation_answer(0, 0, Pairs::empty()),
     ] {
         bench.put(1, message);
-        bench.nothing_ends(&rt, &[1])?;
+        bench.nothing_ends(&[1])?;
     }
     Ok(())
 }
 
 // ---- what is gone on from
-
-fn write_ended(version: Version) -> Delivery {
-    Delivery::WriteEnded {
-        operation: 1,
-        version,
-        value: 7,
-    }
-}
 
 // The field that gave operation 1 out as an asking write takes the state that it finds in its place.
 #[test]
@@ -165,12 +147,11 @@ fn a_sending_write_in_the_place(rt: HostRuntime) -> Result<(), Fail> {
         version: Version(131_073),
         value: 7,
     };
-    assert_eq!(rt; bench.place(1), Some(place));
+    bench.expect_place(1, place)?;
     bench.put(1, write_answer(0, 1, 0b01));
     bench.put(2, write_answer(0, 1, 0b10));
-    bench.nothing_ends(&rt, &[1])?;
-    assert_eq!(rt; bench.deliver(2)?, write_ended(Version(131_073)));
-    Ok(())
+    bench.nothing_ends(&[1])?;
+    bench.expect_end(2, write_ended(1, Version(131_073), 7))
 }
 
 #[test]
@@ -178,13 +159,12 @@ fn an_asking_write_in_the_place(rt: HostRuntime) -> Result<(), Fail> {
     let mut bench = with_a_write(rt.alloc())?;
     bench.put_state(1, asking(1, 1, 1)?);
     bench.put(1, clock_answer(0, 1, 9));
-    bench.nothing_ends(&rt, &[1])?;
+    bench.nothing_ends(&[1])?;
     let made = [
         write_request(1, 0, 1, Version(655_361), 7),
         write_request(1, 1, 1, Version(655_361), 7),
     ];
-    bench.expect_last(&rt, 3, &made);
-    Ok(())
+    bench.expect_last(3, &made)
 }
 
 // Between equal versions the pair that came first stays.
@@ -193,13 +173,7 @@ fn a_read_in_the_place(rt: HostRuntime) -> Result<(), Fail> {
     let mut bench = with_a_write(rt.alloc())?;
     bench.put_state(1, reading(1, 1, 1)?);
     bench.put(1, read_answer(0, 1, FIRST, 6));
-    let ended = Delivery::ReadEnded {
-        operation: 1,
-        version: FIRST,
-        value: 5,
-    };
-    assert_eq!(rt; bench.deliver(1)?, ended);
-    Ok(())
+    bench.expect_end(1, read_ended(1, FIRST, 5))
 }
 
 // A place that is unused or ended takes every message without effect on it.
@@ -213,8 +187,8 @@ fn no_operation_in_the_place(rt: HostRuntime) -> Result<(), Fail> {
         bench.put_state(1, state);
         for message in naming(1) {
             bench.put(1, message);
-            bench.nothing_ends(&rt, &[1])?;
-            assert_eq!(rt; bench.place(1), Some(place));
+            bench.nothing_ends(&[1])?;
+            bench.expect_place(1, place)?;
         }
     }
     Ok(())

@@ -1,12 +1,12 @@
 ghost use Rattle.std.specs.Prelude.{◌≡◌, ◌*◌, ◌≤◌};
 ghost use Rattle.quorum.specs.Making.{Made};
-ghost use Rattle.field_tests.specs.Grids.{touches, fills, grid, grid_lawful};
+ghost use Rattle.field_bench.specs.Grids.{touches, fills, grid, grid_lawful};
 
 use quorum::{MemberSet, QuorumSystem, Refusal};
 
-// A quorum system of two rows: column c has the members 2c and 2c + 1. A set with a member of every
-// column is a read set, and a set with a whole column is a write set. Two write sets may have no
-// member in common.
+/// A quorum system of two rows: column c has the members 2c and 2c + 1. A set with a member of every
+/// column is a read set, and a set with a whole column is a write set. Two write sets may have no
+/// member in common.
 #[derive(Clone, Copy, Debug, PartialEq, Eq)]
 pub struct Grid {
     columns: u8,
@@ -14,6 +14,7 @@ pub struct Grid {
 }
 
 impl Grid {
+    /// A grid of 1 to 32 columns; other counts are refused by 10.
     pub fn new(columns: u8) -> Result<Grid, Refusal>
         ensures { Made (λ q. 2 * q.columns) (2 * columns) result }
     {
