@@ -3,15 +3,20 @@ use Rattle.std.proofs.Common.{◌≡◌, ℕ, zero, suc, ◌^◌, ◌≤◌, Boo
 use Rattle.std.proofs.lemmas.Bool.{cond-true, cond-false, and_parts, eq-eqb, ltb-true, lt-ltb, le-ltb, leb-true, le-leb}
 use Rattle.quorum.specs.declared.member_set.MemberSet.{MemberSet}
 use Rattle.quorum.specs.Systems.{System}
-use Rattle.numbers.specs.declared.version.Version.{Version}
 use Rattle.numbers.specs.Numbers.{between, is_version}
 use Rattle.rules.specs.declared.message.Message.{Message}
 use Rattle.rules.specs.declared.message.Message.TheVariants.{ClockAnswer, WriteAnswer, ReadAnswer}
 use Rattle.rules.specs.Operation.{Operation, unused, asking, sending, reading, ended, named_by}
 use Rattle.rules.specs.Ranges.{Counts, numbers_fit, operation_fits, named_fit, state_fits, has_room}
-use Rattle.operation.specs.Alone.{widest, too_many, refusal_with, refusal_alone}
-use Rattle.field.specs.Heard.{Accepts}
+use Rattle.operation.specs.Alone.{widest, too_many, refusal_with, refusal_at}
 use Rattle.field.proofs.Places.{IsOf, fits_is_of}
+
+-- the message is an answer to operation p
+abbrev pub IsAnswerTo : ℕ → Message → Type 0
+IsAnswerTo p (ClockAnswer i q c) = q ≡ p
+IsAnswerTo p (WriteAnswer i q s) = q ≡ p
+IsAnswerTo p (ReadAnswer j q v x) = q ≡ p
+IsAnswerTo p m = ⊥
 
 both : {a b : Bool} → a ≡ true → b ≡ true → (a && b) ≡ true
 both {b = b} p q = ap (λ (x : Bool). x && b) p ∙ q
@@ -73,37 +78,36 @@ module _ (i o : System) (c : Counts) (n_is : i.count ≡ c.n) (m_is : o.count �
       subst (λ (k : ℕ). (eqb p k && (between 1 1024 k && state_fits (widest i o) k x)) ≡ true) (sym e)
       (both (eq-eqb p p refl) (both (both q.0 (le-leb p 1024 (omega arith))) (state_fits_lem p x h)))
 
-  -- any state accepts a message that its own refusal spares
-  accepts : (p : ℕ) (m : Message) (x : Operation) → IsOf p x → ((own : ℕ) → own ≡ p → refusal_alone i o own x m ≡ 0) → Accepts i o m x
-  accepts p m unused is f = tt
+  -- any place takes a message that the state there does not refuse by its own number
+  accepts : (p : ℕ) (m : Message) (x : Operation) → IsOf p x
+      → ((own : ℕ) → own ≡ p → refusal_with i o own (state_fits (widest i o) own x) (has_room x) m ≡ 0) → refusal_at i o x m ≡ 0
   accepts p m (asking a) is f = f a.operation is
   accepts p m (sending w) is f = f w.operation is
   accepts p m (reading r) is f = f r.operation is
-  accepts p m ended is f = tt
+  accepts p m x is f = refl
 
-  module _ (begun : ℕ) (few : begun ≤ 1024) (p : ℕ) (x : Operation) where
-    pub clock_accepted : (k clock : ℕ) → numbers_fit c (ClockAnswer k p clock) ≡ true
-        → ((between 1 begun p && state_fits c p x) && has_room x) ≡ true → Accepts i o (ClockAnswer k p clock) x
-    clock_accepted k clock a b =
-        let u = and_parts (between 1 begun p && state_fits c p x) (has_room x) b in
-        let v = and_parts (between 1 begun p) (state_fits c p x) u.0 in
-        accepts p (ClockAnswer k p clock) x (fits_is_of c p x v.1) (λ own e.
-        none own _ (has_room x) (ClockAnswer k p clock) (ap (λ (n : ℕ). ltb k n && between 1 65534 clock) n_is ∙ a)
-        (both (own_fits p own begun x e few v.0 v.1) u.1))
+  -- the numbers of an answer
+  wide : (p : ℕ) (m : Message) → IsAnswerTo p m → numbers_fit c m ≡ true → numbers_fit (widest i o) m ≡ true
+  wide p (ClockAnswer k q clock) t a = ap (λ (n : ℕ). ltb k n && between 1 65534 clock) n_is ∙ a
+  wide p (WriteAnswer k q s) t a = ap (λ (n : ℕ). ltb k n && ltb s.0 (2 ^ o.count)) n_is ∙ ap (λ (n : ℕ). ltb k c.n && ltb s.0 (2 ^ n)) m_is ∙ a
+  wide p (ReadAnswer j q v x) t a = ap (λ (n : ℕ). ltb j n && is_version v) m_is ∙ a
+  wide p m t a = absurd t
 
-    pub named_accepted : (k : ℕ) (t : MemberSet) → numbers_fit c (WriteAnswer k p t) ≡ true
-        → (between 1 begun p && state_fits c p x) ≡ true → Accepts i o (WriteAnswer k p t) x
-    named_accepted k t a b =
-        let v = and_parts (between 1 begun p) (state_fits c p x) b in
-        accepts p (WriteAnswer k p t) x (fits_is_of c p x v.1) (λ own e.
-        none own _ (has_room x) (WriteAnswer k p t)
-        (ap (λ (n : ℕ). ltb k n && ltb t.0 (2 ^ o.count)) n_is ∙ ap (λ (n : ℕ). ltb k c.n && ltb t.0 (2 ^ n)) m_is ∙ a)
-        (own_fits p own begun x e few v.0 v.1))
+  -- the operation that it names
+  names : (p : ℕ) (m : Message) (known room own : ℕ → Bool) → IsAnswerTo p m → operation_fits known room m ≡ true → (known p ≡ true → own p ≡ true)
+      → operation_fits own (λ _. room p) m ≡ true
+  names p (ClockAnswer k q clock) known room own t h f =
+      let u = and_parts (known q) (room q) h in
+      both (subst (λ (n : ℕ). own n ≡ true) (sym t) (f (subst (λ (n : ℕ). known n ≡ true) t u.0))) (subst (λ (n : ℕ). room n ≡ true) t u.1)
+  names p (WriteAnswer k q s) known room own t h f = subst (λ (n : ℕ). own n ≡ true) (sym t) (f (subst (λ (n : ℕ). known n ≡ true) t h))
+  names p (ReadAnswer j q v x) known room own t h f = subst (λ (n : ℕ). own n ≡ true) (sym t) (f (subst (λ (n : ℕ). known n ≡ true) t h))
+  names p m known room own t h f = absurd t
 
-    pub pair_accepted : (j : ℕ) (v : Version) (y : ℕ) → numbers_fit c (ReadAnswer j p v y) ≡ true
-        → (between 1 begun p && state_fits c p x) ≡ true → Accepts i o (ReadAnswer j p v y) x
-    pair_accepted j v y a b =
-        let u = and_parts (between 1 begun p) (state_fits c p x) b in
-        accepts p (ReadAnswer j p v y) x (fits_is_of c p x u.1) (λ own e.
-        none own _ (has_room x) (ReadAnswer j p v y) (ap (λ (n : ℕ). ltb j n && is_version v) m_is ∙ a)
-        (own_fits p own begun x e few u.0 u.1))
+  pub accepted : (begun : ℕ) → begun ≤ 1024 → (p : ℕ) (m : Message) (at : ℕ → Operation) → IsAnswerTo p m → numbers_fit c m ≡ true
+      → operation_fits (λ q. between 1 begun q && state_fits c q (at q)) (λ q. has_room (at q)) m ≡ true
+      → (between 1 begun p && state_fits c p (at p)) ≡ true → refusal_at i o (at p) m ≡ 0
+  accepted begun few p m at t a b known =
+      let v = and_parts (between 1 begun p) (state_fits c p (at p)) known in
+      accepts p m (at p) (fits_is_of c p (at p) v.1) (λ own e. none own _ (has_room (at p)) m (wide p m t a)
+      (names p m _ (λ q. has_room (at q)) (λ q. eqb q own && (between 1 1024 own && state_fits (widest i o) own (at p))) t b
+      (λ _. own_fits p own begun (at p) e few v.0 v.1)))

@@ -10,7 +10,8 @@ use Rattle.numbers.specs.Numbers.{last_time}
 use Rattle.rules.specs.Calls.{inputs_stay, outputs_stay, keeps_drift, later_inputs, later_outputs, advanced, advancing}
 use Rattle.rules.specs.Input.{Input, later_input}
 use Rattle.rules.specs.Output.{Output, later_output}
-use Rattle.rules.specs.State.{State, accepted, Outcome, outcome, refuse, no_input, no_output, input_at, output_at, with_input, with_output}
+use Rattle.rules.specs.Said.{accepted}
+use Rattle.rules.specs.State.{State, Outcome, outcome, refuse, no_input, no_output, input_at, output_at, with_input, with_output}
 use Rattle.field.specs.Checked.{advance_check}
 use Rattle.field.specs.Sides.{all_stay, all_later}
 use Rattle.field.proofs.Calling.{later_tests, later_passed}

@@ -11,7 +11,8 @@ use Rattle.rules.specs.Calls.{has_nine, enter, beginning, beginning_write, begin
 use Rattle.rules.specs.Lists.{each}
 use Rattle.rules.specs.Operation as Rules
 use Rattle.rules.specs.Operation.{asking, reading, first_asking, first_reading, clock_questions, read_requests}
-use Rattle.rules.specs.State.{State, began, outcome, refuse, post}
+use Rattle.rules.specs.Said.{began}
+use Rattle.rules.specs.State.{State, outcome, refuse, post}
 use Rattle.operation.specs.declared.table.Operation.{Operation}
 use Rattle.operation.specs.States.{operation_of}
 use Rattle.field.specs.declared.interior.Interior.{Interior}

@@ -2,7 +2,8 @@
 use Rattle.std.proofs.Common.{◌≡◌, ℕ, zero, suc, ◌<◌, ◌≤◌, [], ◌∷◌, ◌++◌, length, sym, refl, ap, ◌∙◌, subst, arith, length-append}
 use Rattle.std.proofs.lemmas.List.{get_or_append_left, get_or_push}
 use Rattle.quorum.specs.Systems.{System, Lawful}
-use Rattle.rules.specs.State.{State, Said, Outcome, outcome}
+use Rattle.rules.specs.Said.{Said}
+use Rattle.rules.specs.State.{State, Outcome, outcome}
 use Rattle.guarantee.proofs.Endings.{operations_end_when_complete}
 use Rattle.guarantee.proofs.Stories.{every_story}
 use Rattle.guarantee.specs.Story.{Call, to_deliver, outcome_of, Story, call_at, before}

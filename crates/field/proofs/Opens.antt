@@ -11,7 +11,8 @@ use Rattle.rules.specs.Calls.{start_clock, opened, clocks_fit, opening}
 use Rattle.rules.specs.Input.{first_input}
 use Rattle.rules.specs.Lists.{each}
 use Rattle.rules.specs.Output.{first_output}
-use Rattle.rules.specs.State.{State, Outcome, accepted, outcome, refuse}
+use Rattle.rules.specs.Said.{accepted}
+use Rattle.rules.specs.State.{State, Outcome, outcome, refuse}
 use Rattle.operation.specs.declared.table.Operation.{Operation}
 use Rattle.operation.specs.States.{operation_of}
 use Rattle.rules.specs.declared.message.Message.{Message}

@@ -6,7 +6,8 @@ use native.Mathlib.Bridge.{le_prop}
 use Rattle.quorum.specs.Systems.{System, Lawful}
 use Rattle.rules.specs.declared.message.Message.{Message}
 use Rattle.rules.specs.Input.{ledger}
-use Rattle.rules.specs.State.{Said, Outcome, outcome, no_input}
+use Rattle.rules.specs.Said.{Said}
+use Rattle.rules.specs.State.{Outcome, outcome, no_input}
 use Rattle.guarantee.specs.Bounds.{Bounded}
 use Rattle.guarantee.specs.Story.{Call, outcome_of}
 use Rattle.guarantee.proofs.Bounds.{bounds_kept}

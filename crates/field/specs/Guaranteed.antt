@@ -1,7 +1,8 @@
 -- What a call of the field means for every story that led to it.
 use Rattle.std.specs.Prelude.{◌≡◌, ℕ, false, [], ◌∷◌, ◌++◌, length}
 use Rattle.quorum.specs.Systems.{System}
-use Rattle.rules.specs.State.{State, Said}
+use Rattle.rules.specs.Said.{Said}
+use Rattle.rules.specs.State.{State}
 use Rattle.guarantee.specs.Endings.{EndsWhenComplete}
 use Rattle.guarantee.specs.Guarantee.{Guarantee}
 use Rattle.guarantee.specs.Story.{Call, Story, before, said_at}

@@ -1,7 +1,6 @@
 pub mod Checked
 pub mod Delivered
 pub mod Guaranteed
-pub mod Heard
 pub mod Looks
 pub mod Opened
 pub mod Ranging

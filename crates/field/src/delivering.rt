@@ -9,7 +9,6 @@ ghost use Rattle.checks.specs.Refused.{refusal_said};
 ghost use Rattle.field.specs.Sound.{Sound};
 ghost use Rattle.field.specs.Views.{state_of};
 
-use crate::hearing::hear;
 use crate::interior::Interior;
 use operation::Operation;
 use quorum::{QuorumSystem, Refusal, Systems};
@@ -74,11 +73,10 @@ impl Interior {
             Message::ClockQuestion { operation, input } => {
                 self.take_clock_question(log, operation, input);
             }
-            Message::ClockAnswer {
-                input,
-                operation,
-                clock,
-            } => self.hear_clock(log, table, systems, input, operation, clock),
+            // an arm for each answer: the check does not cover an arm of several patterns here yet
+            Message::ClockAnswer { operation, .. } => {
+                return self.hear(log, table, systems, number, operation);
+            }
             Message::WriteRequest {
                 operation,
                 input,
@@ -91,12 +89,11 @@ impl Interior {
                 output,
                 object,
             } => self.take_read_request(log, &systems.inputs, operation, output, object),
-            // an arm each: the check does not cover an arm of two patterns here yet
             Message::WriteAnswer { operation, .. } => {
-                return hear(table, systems, operation, &log[number - 1]);
+                return self.hear(log, table, systems, number, operation);
             }
             Message::ReadAnswer { operation, .. } => {
-                return hear(table, systems, operation, &log[number - 1]);
+                return self.hear(log, table, systems, number, operation);
             }
             Message::RenewalRequest {
                 output,

@@ -7,7 +7,7 @@ use Rattle.rules.specs.declared.kept.Ledger.{Ledger}
 use Rattle.rules.specs.declared.kept.Link.{Link}
 use Rattle.rules.specs.declared.message.Message.{Message}
 use Rattle.numbers.specs.declared.time.Time.{Time}
-use Rattle.rules.specs.Calls.{start_clock, opened, clocks_fit, enter, with_operation, advanced}
+use Rattle.rules.specs.Calls.{start_clock, opened, clocks_fit, enter, reacted, advanced}
 use Rattle.rules.specs.Input.{Input, no_held, no_ledger, first_input}
 use Rattle.numbers.specs.Numbers.{none, starting, last_time, longest}
 use Rattle.rules.specs.Operation.{Operation}
@@ -163,12 +163,10 @@ module _ (s : State) (b : Bounded s) where
 
     deliveries : Nine s → Deliveries s (λ r. Bounded r.after)
     deliveries nine = record {
-      still = b;
       logs = λ new short. next (post new s) refl (made_fits nine new short) b.begun b.inputs b.outputs
           (inputs_stay_lem (s.made + length new) (omega arith)) b.each_output;
-      moves = λ p x r runs said. next (with_operation p x s) refl b.made b.begun b.inputs b.outputs b.each_input b.each_output;
-      sends = λ p x new runs short. next (post new (with_operation p x s)) refl (made_fits nine new short) b.begun b.inputs b.outputs
-          (inputs_stay_lem (s.made + length new) (omega arith)) b.each_output;
+      reacts = λ p r how. next (reacted p r s).after refl (made_fits nine r.sends how.short) b.begun b.inputs b.outputs
+          (inputs_stay_lem (s.made + length r.sends) (omega arith)) b.each_output;
       keeps = λ i J h. next (with_input i J s) refl b.made b.begun (length-set s.inputs i J ∙ b.inputs) b.outputs
           (input_changes i J s.made (omega arith) (h.bounds b.k.1 (b.each_input i (input_below i h.inside)) s.made (omega arith)))
           b.each_output;
@@ -196,10 +194,8 @@ bounds_kept inputs outputs x y c s bounded = call_ways inputs outputs s (λ r. r
   where
     opened_only : Deliveries s (λ r. Bounded r.after) → Deliveries s (λ r. r.after.frame.is_open ≡ true → Bounded r.after)
     opened_only d = record {
-      still = λ _. d.still;
       logs = λ new short _. d.logs new short;
-      moves = λ p x r runs said _. d.moves p x r runs said;
-      sends = λ p x new runs short _. d.sends p x new runs short;
+      reacts = λ p r how _. d.reacts p r how;
       keeps = λ i J h _. d.keeps i J h;
       takes = λ i J new h short _. d.takes i J new h short;
       hears = λ j Q new h short _. d.hears j Q new h short;

@@ -1,27 +1,28 @@
 -- Every call on an open field either refuses and leaves the state as it was, or does to the state's world what the act of the call does.
-use Rattle.std.proofs.Common.{◌≡◌, ℕ, zero, suc, ◌+◌, ◌-◌, ◌<◌, ◌≤◌, Bool, true, cond, eqb, ltb, List, [], ◌∷◌, ◌++◌, length, get_or, take, drop, sym, refl, ap, ◌∙◌, inl, inr, append-nil, arith, length-set, length-take, take_at, drop_at}
+use Rattle.std.proofs.Common.{subst, ◌≡◌, ℕ, zero, suc, ◌+◌, ◌-◌, ◌<◌, ◌≤◌, true, cond, eqb, ltb, List, [], ◌∷◌, ◌++◌, length, get_or, take, drop, sym, refl, ap, ◌∙◌, inl, inr, append-nil, arith, length-set, length-take, take_at, drop_at}
 use lib.Seq.{sets, sets-eq, length-sets}
-use Rattle.std.proofs.lemmas.Bool.{cond_both, cond-false, and_parts, ne_eqb}
-use Rattle.quorum.specs.declared.member_set.MemberSet.{MemberSet}
+use Rattle.std.proofs.lemmas.Bool.{cond-false, and_parts, ne_eqb}
 use Rattle.quorum.specs.Systems.{System}
 use Rattle.rules.specs.declared.message.Message.{Message}
 use Rattle.rules.specs.declared.message.Message.TheVariants.{ClockQuestion, ClockAnswer, WriteRequest, WriteAnswer, ReadRequest, ReadAnswer, RenewalRequest, RenewalAnswer, Invalidation, InvalidationAnswer}
-use Rattle.numbers.specs.declared.version.Version.{Version}
-use Rattle.rules.specs.Calls.{operation_at, with_operation, is_known, quiet, hears_clock_answer, hears_write_answer, hears_read_answer, receives, message_at}
+use Rattle.rules.specs.Calls.{operation_at, with_operation, is_known, reacted, handed_to, quiet, receives, message_at}
 use Rattle.rules.specs.Input.{Input, answers_clock, after_write, answers_write, after_renewal, answers_renewal, acknowledges_all}
 use Rattle.rules.specs.Lists.{list_of}
 use Rattle.numbers.specs.Numbers.{between}
-use Rattle.rules.specs.Operation.{Operation, unused, asking, sending, reading, ended, clock_questions, read_requests, hears_clock, knows_clock, gets_version, write_requests, hears_named, is_written, hears_pair, is_read}
+use Rattle.rules.specs.Operation.{Operation, unused, clock_questions, read_requests}
 use Rattle.rules.specs.Output.{Output, answers_read, after_answer, acknowledgement, after_invalidation, answers_invalidation}
 use Rattle.rules.specs.Ranges.{numbers_fit, operation_fits, state_fits, has_room}
-use Rattle.rules.specs.State.{Frame, State, Said, accepted, began, nothing_ended, write_ended, read_ended, Outcome, outcome, input_at, output_at, post, with_input, with_output}
+use Rattle.rules.specs.Reaction.{Reaction}
+use Rattle.rules.specs.Said.{Said, accepted, began, nothing_ended}
+use Rattle.rules.specs.State.{Frame, State, Outcome, input_at, output_at, post, with_input, with_output}
 use Rattle.guarantee.specs.Story.{Call, to_open, to_advance, to_write, to_read, to_deliver, part}
 use Rattle.guarantee.proofs.Fits.{fits_request, fits_renewal, fits_renewed, fits_invalidation, fits_ack, within_range}
 use Rattle.guarantee.proofs.InputMoves as Ins
 use Rattle.guarantee.proofs.Kept.{Small, May}
 use Rattle.guarantee.proofs.OutputMoves as Outs
-use Rattle.guarantee.proofs.Words.{at, In, each_nine}
-use Rattle.guarantee.proofs.World.{Params, World, Act, ticks, writes, reads, hears, run, world_of, sent_of, op_of, at_input, at_output, at_op, clock_state, clock_news, write_state, write_says, read_state, read_says, world_path, sent_post, inp_with, out_with, op_with, at_back}
+use Rattle.guarantee.proofs.Reacting.{sends_nine}
+use Rattle.guarantee.proofs.Words.{In}
+use Rattle.guarantee.proofs.World.{Params, World, Act, ticks, writes, reads, hears, run, world_of, sent_of, op_of, at_input, at_output, reaction, at_reaction, world_path, sent_post, inp_with, out_with, op_with, at_back}
 
 abbrev pub params_of : System → System → State → Params
 params_of inputs outputs s = record {
@@ -47,16 +48,10 @@ abbrev pub says_of : Params → Act → World → Said
 says_of P (ticks x y) W = accepted
 says_of P (writes o x) W = began (W.begun + 1)
 says_of P (reads o) W = began (W.begun + 1)
-says_of P (hears (ClockQuestion p i)) W = nothing_ended
-says_of P (hears (ClockAnswer i p c)) W = nothing_ended
-says_of P (hears (WriteRequest p i o v x)) W = nothing_ended
-says_of P (hears (WriteAnswer i p t)) W = write_says P i p t (W.op p)
-says_of P (hears (ReadRequest p j o)) W = nothing_ended
-says_of P (hears (ReadAnswer j p v x)) W = read_says P j p v x (W.op p)
-says_of P (hears (RenewalRequest j i a o stamp)) W = nothing_ended
-says_of P (hears (RenewalAnswer i j a o v x e stamp len l)) W = nothing_ended
-says_of P (hears (Invalidation i j o v)) W = nothing_ended
-says_of P (hears (InvalidationAnswer j i l)) W = nothing_ended
+says_of P (hears (ClockAnswer i p c)) W = (reaction P (ClockAnswer i p c) (W.op p)).said
+says_of P (hears (WriteAnswer i p t)) W = (reaction P (WriteAnswer i p t) (W.op p)).said
+says_of P (hears (ReadAnswer j p v x)) W = (reaction P (ReadAnswer j p v x) (W.op p)).said
+says_of P a W = nothing_ended
 
 -- what it logs
 abbrev pub news_of : Params → Act → World → List Message
@@ -64,11 +59,11 @@ news_of P (ticks x y) W = []
 news_of P (writes o x) W = clock_questions (W.begun + 1) P.counts.n
 news_of P (reads o) W = read_requests (W.begun + 1) o P.counts.m
 news_of P (hears (ClockQuestion p i)) W = answers_clock i p (W.inp i)
-news_of P (hears (ClockAnswer i p c)) W = clock_news P i c (W.op p)
+news_of P (hears (ClockAnswer i p c)) W = (reaction P (ClockAnswer i p c) (W.op p)).sends
 news_of P (hears (WriteRequest p i o v x)) W = answers_write i p P.counts.m o (after_write P.counts.m o v x (W.inp i))
-news_of P (hears (WriteAnswer i p t)) W = []
+news_of P (hears (WriteAnswer i p t)) W = (reaction P (WriteAnswer i p t) (W.op p)).sends
 news_of P (hears (ReadRequest p j o)) W = answers_read P.inputs j p P.counts.n o (W.out j)
-news_of P (hears (ReadAnswer j p v x)) W = []
+news_of P (hears (ReadAnswer j p v x)) W = (reaction P (ReadAnswer j p v x) (W.op p)).sends
 news_of P (hears (RenewalRequest j i a o stamp)) W = answers_renewal i P.lease j a o stamp (W.inp i) ∷ []
 news_of P (hears (RenewalAnswer i j a o v x e stamp len l)) W = acknowledgement j i l
 news_of P (hears (Invalidation i j o v)) W = answers_invalidation j i o v
@@ -183,49 +178,17 @@ module _ (inputs outputs : System) (s : State) (f : Framed s) (room : s.made + 9
     framed = framed_post new l s refl refl refl refl refl refl refl;
   }
 
-  -- an operation's new state, with messages
-  pub op_accepted : (a : Act) (r : Said) (p : ℕ) (y : Operation) (new : List Message) → May P a W → 1 ≤ p → p ≤ s.begun → length new ≤ 9
-      → run P a W ≡ at_op p y new W → says_of P a W ≡ r → news_of P a W ≡ new
-      → Accepted P s a (outcome r (post new (with_operation p y s)))
-  op_accepted a r p y new may low high l e sy nw = record {
+  -- an operation that reacts
+  pub op_accepted : (a : Act) (p : ℕ) (r : Reaction) → May P a W → 1 ≤ p → p ≤ s.begun → length r.sends ≤ 9
+      → run P a W ≡ at_reaction p r W → says_of P a W ≡ r.said → news_of P a W ≡ r.sends
+      → Accepted P s a (reacted p r s)
+  op_accepted a p r may low high l e sy nw = record {
     may = may;
-    world = world_path refl refl (op_with p y s low (let z = f.begun in omega arith)) refl (sent_post new s (fits new l)) ∙ sym e;
+    world = world_path refl refl (op_with p r.next s low (let z = f.begun in omega arith)) refl (sent_post r.sends s (fits r.sends l)) ∙ sym e;
     said = sym sy;
-    news = logged new s (fits new l) ∙ sym nw;
+    news = logged r.sends s (fits r.sends l) ∙ sym nw;
     frame = refl;
-    framed = framed_post new l (with_operation p y s) refl refl refl refl (length-set s.table (p - 1) y) refl refl;
-  }
-
-  -- an operation's new state, and no message
-  pub op_kept : (a : Act) (r : Said) (p : ℕ) (y : Operation) → May P a W → 1 ≤ p → p ≤ s.begun
-      → run P a W ≡ at_op p y [] W → says_of P a W ≡ r → news_of P a W ≡ []
-      → Accepted P s a (outcome r (with_operation p y s))
-  op_kept a r p y may low high e sy nw = record {
-    may = may;
-    world = world_path refl refl (op_with p y s low (let z = f.begun in omega arith)) refl (sym (append-nil (sent_of s))) ∙ sym e;
-    said = sym sy;
-    news = none_logged s.made s.log ∙ sym nw;
-    frame = refl;
-    framed = record {
-      log = f.log;
-      table = f.table ∙ sym (length-set s.table (p - 1) y);
-      made = f.made;
-      begun = let z = length-set s.table (p - 1) y in omega (arith, f.begun);
-      inputs = f.inputs;
-      outputs = f.outputs;
-    };
-  }
-
-  -- no effect on an operation
-  pub op_still : (a : Act) (p : ℕ) (y : Operation) → May P a W → W.op p ≡ y → run P a W ≡ at_op p y [] W → says_of P a W ≡ nothing_ended → news_of P a W ≡ []
-      → Accepted P s a (quiet s)
-  op_still a p y may o e sy nw = record {
-    may = may;
-    world = world_path refl refl (sym (at_back p (op_of s)) ∙ ap (λ (z : Operation). at p z (op_of s)) o) refl (sym (append-nil (sent_of s))) ∙ sym e;
-    said = sym sy;
-    news = none_logged s.made s.log ∙ sym nw;
-    frame = refl;
-    framed = f;
+    framed = framed_post r.sends l (with_operation p r.next s) refl refl refl refl (length-set s.table (p - 1) r.next) refl refl;
   }
 
   -- ---- each kind of message
@@ -238,98 +201,16 @@ module _ (inputs outputs : System) (s : State) (f : Framed s) (room : s.made + 9
         let b = within_range 1 s.begun p a.0 in
         (b.0, b.1, cond-false (eqb p 0) unused (operation_at s p) (ne_eqb p 0 (λ e. let z = b.0 in omega arith)))
 
-    clock_accepted : (i p c : ℕ) → May P (hears (ClockAnswer i p c)) W → 1 ≤ p → p ≤ s.begun → (y : Operation) → op_of s p ≡ y
-        → Accepted P s (hears (ClockAnswer i p c)) (hears_clock_answer inputs i p c y s)
-    unfolding clock_state clock_news
-    clock_accepted i p c may low high y e = go y e
-      where
-        a : Act
-        a = hears (ClockAnswer i p c)
-
-        ran : (y : Operation) → op_of s p ≡ y → run P a W ≡ at_op p (clock_state P i c y) (clock_news P i c y) W
-        ran y e = ap (λ (z : Operation). at_op p (clock_state P i c z) (clock_news P i c z) W) e
-
-        new : (y : Operation) → op_of s p ≡ y → news_of P a W ≡ clock_news P i c y
-        new y e = ap (clock_news P i c) e
-
-        go : (y : Operation) → op_of s p ≡ y → Accepted P s a (hears_clock_answer inputs i p c y s)
-        go unused e = op_still a p unused may e (ran unused e) refl (new unused e)
-        go (asking x) e = cond_both (knows_clock inputs (hears_clock i c x))
-            (quiet (post (write_requests s.frame.counts.n (gets_version (hears_clock i c x))) (with_operation p (sending (gets_version (hears_clock i c x))) s)))
-            (quiet (with_operation p (asking (hears_clock i c x)) s)) (λ (z : Outcome). Accepted P s a z)
-            (λ t. op_accepted a nothing_ended p (sending (gets_version (hears_clock i c x))) (write_requests s.frame.counts.n (gets_version (hears_clock i c x)))
-            may low high
-            (each_nine s.frame.counts.n (λ k. WriteRequest x.operation k x.object (gets_version (hears_clock i c x)).version x.value) small.n_most)
-            (ran (asking x) e ∙ ap (λ (b : Bool). at_op p (cond b (sending (gets_version (hears_clock i c x))) (asking (hears_clock i c x)))
-            (cond b (write_requests s.frame.counts.n (gets_version (hears_clock i c x))) []) W) t)
-            refl
-            (new (asking x) e ∙ ap (λ (b : Bool). cond b (write_requests s.frame.counts.n (gets_version (hears_clock i c x))) []) t))
-            (λ t. op_kept a nothing_ended p (asking (hears_clock i c x)) may low high
-            (ran (asking x) e ∙ ap (λ (b : Bool). at_op p (cond b (sending (gets_version (hears_clock i c x))) (asking (hears_clock i c x)))
-            (cond b (write_requests s.frame.counts.n (gets_version (hears_clock i c x))) []) W) t)
-            refl
-            (new (asking x) e ∙ ap (λ (b : Bool). cond b (write_requests s.frame.counts.n (gets_version (hears_clock i c x))) []) t))
-        go (sending w) e = op_still a p (sending w) may e (ran (sending w) e) refl (new (sending w) e)
-        go (reading r) e = op_still a p (reading r) may e (ran (reading r) e) refl (new (reading r) e)
-        go ended e = op_still a p ended may e (ran ended e) refl (new ended e)
-
-    write_accepted : (i p : ℕ) (t : MemberSet) → May P (hears (WriteAnswer i p t)) W → 1 ≤ p → p ≤ s.begun → (y : Operation) → op_of s p ≡ y
-        → Accepted P s (hears (WriteAnswer i p t)) (hears_write_answer inputs outputs i p t y s)
-    unfolding write_state write_says
-    write_accepted i p t may low high y e = go y e
-      where
-        a : Act
-        a = hears (WriteAnswer i p t)
-
-        ran : (y : Operation) → op_of s p ≡ y → run P a W ≡ at_op p (write_state P i t y) [] W
-        ran y e = ap (λ (z : Operation). at_op p (write_state P i t z) [] W) e
-
-        says : (y : Operation) → op_of s p ≡ y → says_of P a W ≡ write_says P i p t y
-        says y e = ap (write_says P i p t) e
-
-        go : (y : Operation) → op_of s p ≡ y → Accepted P s a (hears_write_answer inputs outputs i p t y s)
-        go unused e = op_still a p unused may e (ran unused e) (says unused e) refl
-        go (asking x) e = op_still a p (asking x) may e (ran (asking x) e) (says (asking x) e) refl
-        go (sending w) e = cond_both (is_written inputs outputs (hears_named i t w))
-            (outcome (write_ended p w.version.0 w.value) (with_operation p ended s)) (quiet (with_operation p (sending (hears_named i t w)) s))
-            (λ (z : Outcome). Accepted P s a z)
-            (λ q. op_kept a (write_ended p w.version.0 w.value) p ended may low high
-            (ran (sending w) e ∙ ap (λ (b : Bool). at_op p (cond b ended (sending (hears_named i t w))) [] W) q)
-            (says (sending w) e ∙ ap (λ (b : Bool). cond b (write_ended p w.version.0 w.value) nothing_ended) q) refl)
-            (λ q. op_kept a nothing_ended p (sending (hears_named i t w)) may low high
-            (ran (sending w) e ∙ ap (λ (b : Bool). at_op p (cond b ended (sending (hears_named i t w))) [] W) q)
-            (says (sending w) e ∙ ap (λ (b : Bool). cond b (write_ended p w.version.0 w.value) nothing_ended) q) refl)
-        go (reading r) e = op_still a p (reading r) may e (ran (reading r) e) (says (reading r) e) refl
-        go ended e = op_still a p ended may e (ran ended e) (says ended e) refl
-
-    read_accepted : (j p : ℕ) (v : Version) (x : ℕ) → May P (hears (ReadAnswer j p v x)) W → 1 ≤ p → p ≤ s.begun → (y : Operation) → op_of s p ≡ y
-        → Accepted P s (hears (ReadAnswer j p v x)) (hears_read_answer outputs j p v x y s)
-    unfolding read_state read_says
-    read_accepted j p v x may low high y e = go y e
-      where
-        a : Act
-        a = hears (ReadAnswer j p v x)
-
-        ran : (y : Operation) → op_of s p ≡ y → run P a W ≡ at_op p (read_state P j v x y) [] W
-        ran y e = ap (λ (z : Operation). at_op p (read_state P j v x z) [] W) e
-
-        says : (y : Operation) → op_of s p ≡ y → says_of P a W ≡ read_says P j p v x y
-        says y e = ap (read_says P j p v x) e
-
-        go : (y : Operation) → op_of s p ≡ y → Accepted P s a (hears_read_answer outputs j p v x y s)
-        go unused e = op_still a p unused may e (ran unused e) (says unused e) refl
-        go (asking z) e = op_still a p (asking z) may e (ran (asking z) e) (says (asking z) e) refl
-        go (sending w) e = op_still a p (sending w) may e (ran (sending w) e) (says (sending w) e) refl
-        go (reading r) e = cond_both (is_read outputs (hears_pair j v x r))
-            (outcome (read_ended p (hears_pair j v x r).version.0 (hears_pair j v x r).value) (with_operation p ended s)) (quiet (with_operation p (reading (hears_pair j v x r)) s))
-            (λ (z : Outcome). Accepted P s a z)
-            (λ q. op_kept a (read_ended p (hears_pair j v x r).version.0 (hears_pair j v x r).value) p ended may low high
-            (ran (reading r) e ∙ ap (λ (b : Bool). at_op p (cond b ended (reading (hears_pair j v x r))) [] W) q)
-            (says (reading r) e ∙ ap (λ (b : Bool). cond b (read_ended p (hears_pair j v x r).version.0 (hears_pair j v x r).value) nothing_ended) q) refl)
-            (λ q. op_kept a nothing_ended p (reading (hears_pair j v x r)) may low high
-            (ran (reading r) e ∙ ap (λ (b : Bool). at_op p (cond b ended (reading (hears_pair j v x r))) [] W) q)
-            (says (reading r) e ∙ ap (λ (b : Bool). cond b (read_ended p (hears_pair j v x r).version.0 (hears_pair j v x r).value) nothing_ended) q) refl)
-        go ended e = op_still a p ended may e (ran ended e) (says ended e) refl
+    -- what the operation at that place makes of a message
+    reacts_accepted : (m : Message) (p : ℕ) → May P (hears m) W → is_known s p ≡ true
+        → run P (hears m) W ≡ at_reaction p (reaction P m (op_of s p)) W → says_of P (hears m) W ≡ (reaction P m (op_of s p)).said
+        → news_of P (hears m) W ≡ (reaction P m (op_of s p)).sends
+        → Accepted P s (hears m) (handed_to inputs outputs m p s)
+    reacts_accepted m p may known r sy nw =
+        let b = known_op p known in
+        subst (λ (x : Operation). Accepted P s (hears m) (reacted p (reaction P m x) s)) b.2
+        (op_accepted (hears m) p (reaction P m (op_of s p)) may b.0 b.1
+        (sends_nine inputs outputs m (op_of s p) (let z = small.n_is in let y = small.n_most in omega arith)) r sy nw)
 
     in8 : (i : ℕ) → i < s.frame.counts.n → i < 8
     in8 i l = let z = small.n_most in omega arith
@@ -346,8 +227,7 @@ module _ (inputs outputs : System) (s : State) (f : Framed s) (room : s.made + 9
         posted (hears (ClockQuestion p i)) (answers_clock i p (input_at s i)) (run P (hears (ClockQuestion p i)) W) (h, n) (omega arith) refl
         (at_back i (input_at s)) refl refl refl refl refl refl
     receives_accepted (ClockAnswer i p c) h n o =
-        let b = known_op p (and_parts (is_known s p) (has_room (operation_at s p)) o).0 in
-        clock_accepted i p c (h, n) b.0 b.1 (operation_at s p) b.2
+        reacts_accepted (ClockAnswer i p c) p (h, n) (and_parts (is_known s p) (has_room (operation_at s p)) o).0 refl refl refl
     receives_accepted (WriteRequest p i o v x) h n k = input_accepted (hears (WriteRequest p i o v x)) i J new (h, n)
         (in8 i (fits_request s.frame.counts p i o v x n).receiver)
         (let z = Ins.length3 i p s.frame.counts.m o J in let y = small.m_most in omega arith) refl refl refl
@@ -357,14 +237,12 @@ module _ (inputs outputs : System) (s : State) (f : Framed s) (room : s.made + 9
 
         new : List Message
         new = answers_write i p s.frame.counts.m o J
-    receives_accepted (WriteAnswer i p t) h n o =
-        let b = known_op p o in write_accepted i p t (h, n) b.0 b.1 (operation_at s p) b.2
+    receives_accepted (WriteAnswer i p t) h n o = reacts_accepted (WriteAnswer i p t) p (h, n) o refl refl refl
     receives_accepted (ReadRequest p j o) h n k =
         posted (hears (ReadRequest p j o)) (answers_read inputs j p s.frame.counts.n o (output_at s j)) (run P (hears (ReadRequest p j o)) W) (h, n)
         (let z = Outs.read_length inputs j p s.frame.counts.n o (output_at s j) small.n_pos in let y = small.n_most in omega arith) refl
         refl (at_back j (output_at s)) refl refl refl refl refl
-    receives_accepted (ReadAnswer j p v x) h n o =
-        let b = known_op p o in read_accepted j p v x (h, n) b.0 b.1 (operation_at s p) b.2
+    receives_accepted (ReadAnswer j p v x) h n o = reacts_accepted (ReadAnswer j p v x) p (h, n) o refl refl refl
     receives_accepted (RenewalRequest j i a o stamp) h n k = input_accepted (hears (RenewalRequest j i a o stamp)) i
         (after_renewal s.frame.lease j a o (input_at s i)) (answers_renewal i s.frame.lease j a o stamp (input_at s i) ∷ []) (h, n)
         (in8 i (fits_renewal s.frame.counts j i a o stamp n).input) (omega arith) refl refl refl

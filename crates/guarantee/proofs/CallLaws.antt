@@ -10,15 +10,17 @@ use Rattle.rules.specs.Calls.{enter, operation_at, with_operation, advanced}
 use Rattle.rules.specs.Input.{Input, held, ledger, is_shut_out, invalidations, answers_write}
 use Rattle.rules.specs.Operation.{Operation, unused, ended}
 use Rattle.rules.specs.Output.{Output}
-use Rattle.rules.specs.State.{State, Said, refused, accepted, began, nothing_ended, no_input, no_output, input_at, output_at, post, with_input, with_output}
+use Rattle.rules.specs.Reaction.{Reaction}
+use Rattle.rules.specs.Said.{Said, refused, accepted, began, nothing_ended}
+use Rattle.rules.specs.State.{State, no_input, no_output, input_at, output_at, post, with_input, with_output}
 use Rattle.guarantee.specs.Bounds.{Bounded}
 use Rattle.guarantee.specs.Laws.{AfterCalls, RefusalsAlterNothing, OperationsStay, EndedStaysEnded, MessagesStay, LoggedStaysLogged, InputRises, OutputRises, ServersRise, NothingFalls, LeasesStand, OnlyOthersAreTold, AllOthersAreTold, WriteIsAnswered, AnswerNamesShutOut, NamedIsShutOut, QueueingLeavesOthers, AcknowledgingLeavesOthers}
 use Rattle.guarantee.specs.Story.{Has}
 use Rattle.guarantee.proofs.InputMoves.{names3_below}
 use Rattle.guarantee.proofs.ServerSteps.{changed, input_same, later_rises, output_same, later_output_rises, queues_leaves, acks_leaves}
 use Rattle.guarantee.proofs.Sets.{has-set_of}
-use Rattle.guarantee.proofs.Ways.{InputStep, OutputStep, Runs, NotRefused, Advanced, advances, call_ways}
-use Rattle.guarantee.proofs.Words.{In, All, Any, any_old, any_new, any_each}
+use Rattle.guarantee.proofs.Ways.{InputStep, OutputStep, Reacts, NotRefused, Advanced, advances, call_ways}
+use Rattle.guarantee.proofs.Words.{set_from, In, All, Any, any_old, any_new, any_each}
 
 -- ---- refusals
 
@@ -30,10 +32,8 @@ refusals_alter_nothing inputs outputs c s = call_ways inputs outputs s (λ r. (n
       advances = λ increments found stays number e. clash number accepted e (λ n d. let z : ◌≡◌ {A = ℕ} 0 1 = cc in omega arith);
       begins = λ x new found room nine short number e. clash number (began (s.begun + 1)) e (λ n d. let z : ◌≡◌ {A = ℕ} 0 1 = cc in omega arith);
       delivers = λ found nine. record {
-        still = λ number e. clash number nothing_ended e still;
         logs = λ new short number e. clash number nothing_ended e still;
-        moves = λ p x r runs said number e. clash number r e said;
-        sends = λ p x new runs short number e. clash number nothing_ended e still;
+        reacts = λ p r how number e. clash number r.said e how.says;
         keeps = λ i J h number e. clash number nothing_ended e still;
         takes = λ i J new h short number e. clash number nothing_ended e still;
         hears = λ j Q new h short number e. clash number nothing_ended e still;
@@ -55,8 +55,7 @@ module _ (R : State → State → Type 0) where
     pub advances : (increments : List ℕ) (t : State) → Advanced increments s t → R s t
     pub begins : (x : Operation) (new : List Message) → R s (post new (enter x s))
     pub logs : (new : List Message) → R s (post new s)
-    pub moves : (p : ℕ) (x : Operation) → Runs s p → R s (with_operation p x s)
-    pub sends : (p : ℕ) (x : Operation) (new : List Message) → Runs s p → R s (post new (with_operation p x s))
+    pub reacts : (p : ℕ) (r : Reaction) → Reacts s p r → R s (post r.sends (with_operation p r.next s))
     pub keeps : (i : ℕ) (J : Input) → InputStep s i J 0 → R s (with_input i J s)
     pub takes : (i : ℕ) (J : Input) (new : List Message) → InputStep s i J (length new) → R s (post new (with_input i J s))
     pub hears : (j : ℕ) (Q : Output) (new : List Message) → OutputStep s j Q → R s (post new (with_output j Q s))
@@ -69,10 +68,8 @@ module _ (R : State → State → Type 0) where
         advances = λ increments found stays. t.advances increments (advanced increments s) (advances increments s);
         begins = λ x new found room nine short. t.begins x new;
         delivers = λ found nine. record {
-          still = t.still;
           logs = λ new short. t.logs new;
-          moves = λ p x r runs said. t.moves p x runs;
-          sends = λ p x new runs short. t.sends p x new runs;
+          reacts = λ p r how. t.reacts p r how;
           keeps = λ i J h. t.keeps i J h;
           takes = λ i J new h short. t.takes i J new h;
           hears = λ j Q new h short. t.hears j Q new h;
@@ -97,8 +94,7 @@ ended_stays_ended = after_calls OperationsStay (λ s. record {
     ended = λ p low high h. elsewhere s.table s.begun p x (λ e. omega arith) h;
   };
   logs = λ new. same s (post new s) refl refl;
-  moves = λ p x runs. record { begun = omega arith; ended = moved s p x runs };
-  sends = λ p x new runs. record { begun = omega arith; ended = moved s p x runs };
+  reacts = λ p r how. record { begun = omega arith; ended = moved s p r how };
   keeps = λ i J h. same s (with_input i J s) refl refl;
   takes = λ i J new h. same s (post new (with_input i J s)) refl refl;
   hears = λ j Q new h. same s (post new (with_output j Q s)) refl refl;
@@ -110,11 +106,14 @@ ended_stays_ended = after_calls OperationsStay (λ s. record {
       ended = λ p low high h. ap (λ (l : List Operation). get_or l (p - 1) unused) d ∙ h;
     }
 
-    moved : (s : State) (q : ℕ) (x : Operation) → Runs s q → (p : ℕ) → 1 ≤ p → p ≤ s.begun → operation_at s p ≡ ended
-        → get_or (set s.table (q - 1) x) (p - 1) unused ≡ ended
-    moved s q x runs p low high h = elim (cases_eq q p) [
-      | inl e ↦ absurd (runs.running (subst (λ (k : ℕ). operation_at s k ≡ ended) (sym e) h))
-      | inr e ↦ elsewhere s.table (q - 1) p x (λ d. let z = runs.low in e (omega arith)) h
+    moved : (s : State) (q : ℕ) (r : Reaction) → Reacts s q r → (p : ℕ) → 1 ≤ p → p ≤ s.begun → operation_at s p ≡ ended
+        → get_or (set s.table (q - 1) r.next) (p - 1) unused ≡ ended
+    moved s q r how p low high h = elim (cases_eq q p) [
+      | inl e ↦ elim (set_from s.table (q - 1) (p - 1) r.next unused) [
+        | inl d ↦ d ∙ h
+        | inr d ↦ d.1 ∙ how.stays_ended (subst (λ (k : ℕ). operation_at s k ≡ ended) (sym e) h)
+      ]
+      | inr e ↦ elsewhere s.table (q - 1) p r.next (λ d. let z = how.low in e (omega arith)) h
     ]
 
 -- ---- messages
@@ -140,8 +139,7 @@ logged_stays_logged = after_calls MessagesStay (λ s. record {
   advances = λ increments t r. same s t r.made r.log;
   begins = λ x new. record { made = omega arith; same = take_sets new s.log s.made s.made (omega arith) };
   logs = λ new. record { made = omega arith; same = take_sets new s.log s.made s.made (omega arith) };
-  moves = λ p x runs. same s (with_operation p x s) refl refl;
-  sends = λ p x new runs. record { made = omega arith; same = take_sets new s.log s.made s.made (omega arith) };
+  reacts = λ p r how. record { made = omega arith; same = take_sets r.sends s.log s.made s.made (omega arith) };
   keeps = λ i J h. same s (with_input i J s) refl refl;
   takes = λ i J new h. record { made = omega arith; same = take_sets new s.log s.made s.made (omega arith) };
   hears = λ j Q new h. record { made = omega arith; same = take_sets new s.log s.made s.made (omega arith) };
@@ -168,8 +166,7 @@ nothing_falls = after_calls ServersRise (λ s. record {
   };
   begins = λ x new. record { inputs = (same s).inputs; outputs = (same s).outputs };
   logs = λ new. record { inputs = (same s).inputs; outputs = (same s).outputs };
-  moves = λ p x runs. record { inputs = (same s).inputs; outputs = (same s).outputs };
-  sends = λ p x new runs. record { inputs = (same s).inputs; outputs = (same s).outputs };
+  reacts = λ p r how. record { inputs = (same s).inputs; outputs = (same s).outputs };
   keeps = λ i J h. record {
     inputs = λ k. changed InputRises s.inputs i k J no_input input_same h.rises;
     outputs = (same s).outputs;
@@ -200,8 +197,7 @@ leases_stand = after_calls (λ s t. Bounded s → (i j : ℕ) → (ledger (input
   ];
   begins = λ x new _ i. same (input_at s i);
   logs = λ new _ i. same (input_at s i);
-  moves = λ p x runs _ i. same (input_at s i);
-  sends = λ p x new runs _ i. same (input_at s i);
+  reacts = λ p r how _ i. same (input_at s i);
   keeps = λ i J h b k. changed Longer s.inputs i k J no_input same (h.leases (b.each_input i (below s b i h.inside)));
   takes = λ i J new h b k. changed Longer s.inputs i k J no_input same (h.leases (b.each_input i (below s b i h.inside)));
   hears = λ j Q new h _ i. same (input_at s i);

@@ -12,7 +12,8 @@ use Rattle.numbers.specs.Numbers.{keeps_pair}
 use Rattle.rules.specs.Operation.{Operation, unused, asking, reading, first_asking, first_reading, clock_questions, read_requests}
 use Rattle.rules.specs.Output.{Output, later_output}
 use Rattle.rules.specs.Ranges.{numbers_fit, operation_fits, has_room}
-use Rattle.rules.specs.State.{Frame, State, accepted, began, Outcome, outcome, refuse, no_input, no_output, input_at, output_at, post}
+use Rattle.rules.specs.Said.{accepted, began}
+use Rattle.rules.specs.State.{Frame, State, Outcome, outcome, refuse, no_input, no_output, input_at, output_at, post}
 use Rattle.guarantee.specs.Story.{Call, to_open, to_advance, to_write, to_read, to_deliver, outcome_of}
 use Rattle.guarantee.proofs.Bridge.{params_of, act_of, says_of, news_of, Framed, Accepted, logged, none_logged, in_sent, receives_accepted}
 use Rattle.guarantee.proofs.Kept.{Small, May}

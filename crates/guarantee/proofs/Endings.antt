@@ -8,7 +8,8 @@ use Rattle.rules.specs.declared.message.Message.{Message}
 use Rattle.rules.specs.declared.message.Message.TheVariants.{WriteRequest, WriteAnswer, ReadRequest, ReadAnswer}
 use Rattle.rules.specs.Calls.{delivering, message_at}
 use Rattle.rules.specs.Operation.{Operation, asking, reading, first_asking, first_reading, hears_named, is_written, hears_pair, is_read}
-use Rattle.rules.specs.State.{State, began, Outcome, refuse}
+use Rattle.rules.specs.Said.{began}
+use Rattle.rules.specs.State.{State, Outcome, refuse}
 use Rattle.guarantee.specs.Endings.{is_refusal, message_of, delivered_at, also_hears, gathered_before, hears_names, named_before, written_before, WriteCompletes, hears_answer, answered_before, read_before, ReadCompletes, EndsWhenComplete, OperationsEndWhenComplete}
 use Rattle.guarantee.specs.Story.{Story, Call, to_open, to_advance, to_write, to_read, to_deliver, outcome_of, call_at, before, said_at, BeginsWrite, BeginsRead, EndsWrite, EndsRead}
 use Rattle.guarantee.proofs.Bridge.{params_of, act_of, Accepted}

@@ -1,6 +1,5 @@
 -- Each accepted call takes nothing back, and keeps what is kept.
 use Rattle.std.proofs.Common.{◌≡◌, ℕ, ◌+◌, ◌<◌, ◌≤◌, ◌⊎◌, sym, refl, ap, subst, inl, inr, arith}
-use Rattle.quorum.specs.declared.member_set.MemberSet.{MemberSet}
 use Rattle.numbers.specs.declared.epoch.Epoch.{Epoch}
 use Rattle.rules.specs.declared.kept.Held.{Held}
 use Rattle.rules.specs.declared.message.Message.{Message}
@@ -19,11 +18,11 @@ use Rattle.guarantee.proofs.Channel.{InputShape, OutputShape}
 use Rattle.guarantee.proofs.InputMoves as Ins
 use Rattle.guarantee.proofs.InputMoves.{Clocked}
 use Rattle.guarantee.proofs.Kept.{slow, view, Begun, Genuine, Wrote, Reads, MsgOk, Small, Kept, May, Grows}
-use Rattle.guarantee.proofs.Operations.{wrote_clock, wrote_write, wrote_read, reads_clock, reads_write, reads_read, moved_op}
+use Rattle.guarantee.proofs.Operations.{wrote_up, reads_up, moved_op}
 use Rattle.guarantee.proofs.OutputMoves as Outs
 use Rattle.guarantee.proofs.Steps.{moves}
 use Rattle.guarantee.proofs.Words.{at, at_cases, at_miss, In, all_at, any_old}
-use Rattle.guarantee.proofs.World.{Params, World, Act, ticks, writes, reads, hears, run, clock_state, write_state, read_state}
+use Rattle.guarantee.proofs.World.{Params, World, Act, ticks, writes, reads, hears, run, reaction}
 
 -- ---- what a step leaves of a server
 
@@ -161,53 +160,25 @@ module _ (P : Params) (small : Small P) (W : World) (k : Kept P W) where
 
   sent_up : (a : Act) → (m : Message) → In m W.sent → In m (run P a W).sent
   sent_up (ticks x y) m h = h
-  sent_up (writes o x) m h = any_old (λ z. m ≡ z) W.sent _ h
-  sent_up (reads o) m h = any_old (λ z. m ≡ z) W.sent _ h
   sent_up (hears (ClockQuestion p a)) m h = any_old (λ z. m ≡ z) W.sent _ h
-  sent_up (hears (ClockAnswer a p c)) m h = any_old (λ z. m ≡ z) W.sent _ h
-  sent_up (hears (WriteRequest p a o v x)) m h = any_old (λ z. m ≡ z) W.sent _ h
-  sent_up (hears (WriteAnswer a p t)) m h = any_old (λ z. m ≡ z) W.sent _ h
-  sent_up (hears (ReadRequest p b o)) m h = any_old (λ z. m ≡ z) W.sent _ h
-  sent_up (hears (ReadAnswer b p v x)) m h = any_old (λ z. m ≡ z) W.sent _ h
-  sent_up (hears (RenewalRequest b a w o stamp)) m h = any_old (λ z. m ≡ z) W.sent _ h
-  sent_up (hears (RenewalAnswer a b w o v x e stamp len l)) m h = any_old (λ z. m ≡ z) W.sent _ h
-  sent_up (hears (Invalidation a b o v)) m h = any_old (λ z. m ≡ z) W.sent _ h
-  sent_up (hears (InvalidationAnswer b a l)) m h = any_old (λ z. m ≡ z) W.sent _ h
+  sent_up a m h = any_old (λ z. m ≡ z) W.sent _ h
 
   -- a fact of operations that no answer takes back is not taken back by any call
   pub ops_up : (X : Operation → Type 0)
-      → ((i c : ℕ) (y : Operation) → X y → X (clock_state P i c y))
-      → ((i : ℕ) (t : MemberSet) (y : Operation) → X y → X (write_state P i t y))
-      → ((j : ℕ) (v : Version) (x : ℕ) (y : Operation) → X y → X (read_state P j v x y))
+      → ((m : Message) (y : Operation) → X y → X (reaction P m y).next)
       → (a : Act) (p : ℕ) → Begun W p → X (W.op p) → X ((run P a W).op p)
-  ops_up X f g e (ticks x y) p b h = h
-  ops_up X f g e (writes o x) p b h = subst X (sym (at_miss (W.begun + 1) p (asking (first_asking (W.begun + 1) o x)) W.op (λ d. let z = b.1 in omega arith))) h
-  ops_up X f g e (reads o) p b h = subst X (sym (at_miss (W.begun + 1) p (reading (first_reading (W.begun + 1) o)) W.op (λ d. let z = b.1 in omega arith))) h
-  ops_up X f g e (hears (ClockQuestion q a)) p b h = h
-  ops_up X f g e (hears (ClockAnswer a q c)) p b h = moved_op X q (clock_state P a c (W.op q)) W.op (f a c (W.op q)) p h
-  ops_up X f g e (hears (WriteRequest q a o v x)) p b h = h
-  ops_up X f g e (hears (WriteAnswer a q t)) p b h = moved_op X q (write_state P a t (W.op q)) W.op (g a t (W.op q)) p h
-  ops_up X f g e (hears (ReadRequest q c o)) p b h = h
-  ops_up X f g e (hears (ReadAnswer c q v x)) p b h = moved_op X q (read_state P c v x (W.op q)) W.op (e c v x (W.op q)) p h
-  ops_up X f g e (hears (RenewalRequest c a w o stamp)) p b h = h
-  ops_up X f g e (hears (RenewalAnswer a c w o v x d stamp len l)) p b h = h
-  ops_up X f g e (hears (Invalidation a c o v)) p b h = h
-  ops_up X f g e (hears (InvalidationAnswer c a l)) p b h = h
+  ops_up X f (writes o x) p b h = subst X (sym (at_miss (W.begun + 1) p (asking (first_asking (W.begun + 1) o x)) W.op (λ d. let z = b.1 in omega arith))) h
+  ops_up X f (reads o) p b h = subst X (sym (at_miss (W.begun + 1) p (reading (first_reading (W.begun + 1) o)) W.op (λ d. let z = b.1 in omega arith))) h
+  ops_up X f (hears (ClockAnswer a q c)) p b h = moved_op X q _ W.op (f (ClockAnswer a q c) (W.op q)) p h
+  ops_up X f (hears (WriteAnswer a q t)) p b h = moved_op X q _ W.op (f (WriteAnswer a q t) (W.op q)) p h
+  ops_up X f (hears (ReadAnswer c q v x)) p b h = moved_op X q _ W.op (f (ReadAnswer c q v x) (W.op q)) p h
+  ops_up X f a p b h = h
 
   begun_up : (a : Act) → W.begun ≤ (run P a W).begun
-  begun_up (ticks x y) = omega arith
   begun_up (writes o x) = omega arith
   begun_up (reads o) = omega arith
   begun_up (hears (ClockQuestion p a)) = omega arith
-  begun_up (hears (ClockAnswer a p c)) = omega arith
-  begun_up (hears (WriteRequest p a o v x)) = omega arith
-  begun_up (hears (WriteAnswer a p t)) = omega arith
-  begun_up (hears (ReadRequest p b o)) = omega arith
-  begun_up (hears (ReadAnswer b p v x)) = omega arith
-  begun_up (hears (RenewalRequest b a w o stamp)) = omega arith
-  begun_up (hears (RenewalAnswer a b w o v x e stamp len l)) = omega arith
-  begun_up (hears (Invalidation a b o v)) = omega arith
-  begun_up (hears (InvalidationAnswer b a l)) = omega arith
+  begun_up a = omega arith
 
   pub chans_next : (a : Act) → May P a W → (i j : ℕ) → i < P.counts.n → j < P.counts.m → Inv P.lease (slow P) (view (run P a W) i j)
   chans_next a h i j x y = invariant P.lease (slow P) (view W i j) (view (run P a W) i j) (k.chans i j x y) (moves P small W k i j x y a h)
@@ -220,8 +191,7 @@ module _ (P : Params) (small : Small P) (W : World) (k : Kept P W) where
       clock = let z = (inputs_step a h i).lc_up in omega (arith, s.clock);
     };
     sent = sent_up a;
-    wrote = λ p o v x. ops_up (λ y. Wrote y o v x)
-        (λ i c y. wrote_clock P i c y o v x) (λ i t y. wrote_write P i t y o v x) (λ j u z y. wrote_read P j u z y o v x) a p;
-    reads = λ p o. ops_up (λ y. Reads y o) (λ i c y. reads_clock P i c y o) (λ i t y. reads_write P i t y o) (λ j u z y. reads_read P j u z y o) a p;
+    wrote = λ p o v x. ops_up (λ y. Wrote y o v x) (λ m y. wrote_up P m y o v x) a p;
+    reads = λ p o. ops_up (λ y. Reads y o) (λ m y. reads_up P m y o) a p;
     begun = begun_up a;
   }

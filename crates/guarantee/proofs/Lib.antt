@@ -6,6 +6,7 @@ pub mod Sets
 pub mod InputMoves
 pub mod OutputMoves
 pub mod World
+pub mod Reacting
 pub mod Fits
 pub mod Kept
 pub mod Operations

@@ -1,6 +1,6 @@
 -- What is kept of a world is kept of the next: its new messages and its new operations are as they should be.
-use Rattle.std.proofs.Common.{◌≡◌, ℕ, ◌+◌, ◌/◌, ◌<◌, ◌≤◌, Bool, true, false, cond, ◌⊎◌, List, [], ◌∷◌, ◌++◌, sym, refl, ap, ◌∙◌, subst, inl, inr, arith}
-use Rattle.std.proofs.lemmas.Bool.{cond_both, cond-true, and_parts, false≢true}
+use Rattle.std.proofs.Common.{◌≡◌, ℕ, ◌+◌, ◌/◌, ◌<◌, ◌≤◌, Bool, true, cond, ◌⊎◌, List, [], ◌∷◌, ◌++◌, sym, refl, ap, ◌∙◌, subst, inl, inr, arith}
+use Rattle.std.proofs.lemmas.Bool.{and_parts, false≢true}
 use Rattle.quorum.specs.declared.member_set.MemberSet.{MemberSet}
 use Rattle.quorum.specs.Sets.{has, full, set_of}
 use Rattle.quorum.specs.Systems.{Lawful}
@@ -10,21 +10,24 @@ use Rattle.rules.specs.declared.message.Message.TheVariants.{ClockQuestion, Cloc
 use Rattle.numbers.specs.declared.version.Version.{Version}
 use Rattle.rules.specs.Input.{Input, held, is_shut_out, answers_clock, after_write, answers_write, answers_renewal}
 use Rattle.numbers.specs.Numbers.{none}
-use Rattle.rules.specs.Operation.{Operation, unused, asking, sending, reading, ended, Asking, Sending, Reading, first_asking, first_reading, clock_questions, read_requests, write_requests, gets_version, hears_clock, knows_clock, hears_named, is_written, hears_pair, is_read}
+use Rattle.rules.specs.Operation.{Operation, asking, sending, reading, Asking, Sending, Reading, first_asking, first_reading, clock_questions, read_requests, write_requests, gets_version, hears_clock, knows_clock, hears_named, hears_pair}
+use Rattle.rules.specs.Reaction.{Reaction}
+use Rattle.rules.proofs.Reactions.{every_reaction}
 use Rattle.rules.specs.Output.{newest_of, valid, covers, good, answers_read, acknowledgement}
 use Rattle.guarantee.proofs.View.{Inv, Fenced}
 use Rattle.guarantee.proofs.Fence.{establish}
 use Rattle.guarantee.proofs.Channel.{view_of}
-use Rattle.guarantee.proofs.Fits.{ClockFits, fits_clock, fits_request, fits_read, fits_pair, fits_renewal}
+use Rattle.guarantee.proofs.Fits.{fits_clock, fits_request, fits_read, fits_pair, fits_renewal}
 use Rattle.guarantee.proofs.InputMoves as Ins
 use Rattle.guarantee.proofs.OutputMoves as Outs
 use Rattle.guarantee.proofs.Keeps.{inputs_step, outputs_step, chans_next, grows}
 use Rattle.guarantee.proofs.Kept.{slow, Begun, Requested, AskedFor, Genuine, Wrote, Reads, Stands, Named, MsgOk, AskingOk, SendingOk, ReadingOk, OpOk, Small, Kept, May, Grows, requested_grows, genuine_grows, msg_grows, op_grows}
 use Rattle.guarantee.proofs.Operations.{named_none, named_from, pair_from}
+use Rattle.guarantee.proofs.Reacting.{reacts_gets}
 use Rattle.guarantee.proofs.Sets.{has_none, of_set_of, of_joined}
 use Rattle.guarantee.proofs.Steps.{moves}
 use Rattle.guarantee.proofs.Words.{at, at_cases, at_same, In, All, all_map, all-++, all_at, any_old, any_new, each_all, any_each}
-use Rattle.guarantee.proofs.World.{Params, World, Act, ticks, writes, reads, hears, run, clock_state, clock_news, write_state, read_state}
+use Rattle.guarantee.proofs.World.{Params, World, Act, ticks, writes, reads, hears, run, reaction, answered}
 
 module _ (P : Params) (small : Small P) (lawful : Lawful P.inputs) (W : World) (k : Kept P W) where
   msg_at : (m : Message) → In m W.sent → MsgOk P W m
@@ -84,18 +87,17 @@ module _ (P : Params) (small : Small P) (lawful : Lawful P.inputs) (W : World) (
   -- a write that knows the clock becomes a sending write, which its requests agree with
   knows_state : (a p c : ℕ) (x : Asking) → W.op p ≡ asking x → knows_clock P.inputs (hears_clock a c x) ≡ true
       → (next (hears (ClockAnswer a p c))).op p ≡ sending (gets_version (hears_clock a c x))
-  unfolding clock_state
-  knows_state a p c x e t = at_same p (clock_state P a c (W.op p)) W.op ∙ ap (clock_state P a c) e
-      ∙ cond-true (knows_clock P.inputs (hears_clock a c x)) (sending (gets_version (hears_clock a c x))) (asking (hears_clock a c x)) t
+  knows_state a p c x e t = at_same p _ W.op ∙ ap (λ (y : Operation). (reaction P (ClockAnswer a p c) y).next) e
+      ∙ ap (λ (r : Reaction). r.next) (reacts_gets P.inputs P.outputs a p c x t)
 
   requests_ok : (a p c : ℕ) → (h : May P (hears (ClockAnswer a p c)) W) → (x : Asking) → W.op p ≡ asking x
       → knows_clock P.inputs (hears_clock a c x) ≡ true
-      → All (MsgOk P (next (hears (ClockAnswer a p c)))) (write_requests P.counts.n (gets_version (hears_clock a c x)))
+      → All (MsgOk P (next (hears (ClockAnswer a p c)))) (write_requests P.inputs.count (gets_version (hears_clock a c x)))
   requests_ok a p c h x e t =
       let b = msg_at (ClockAnswer a p c) h.0 in
       let own : x.operation ≡ p = (subst (OpOk P W p) e (k.ops p b)).own in
       let w = gets_version (hears_clock a c x) in
-      each_all (MsgOk P (next (hears (ClockAnswer a p c)))) P.counts.n
+      each_all (MsgOk P (next (hears (ClockAnswer a p c)))) P.inputs.count
       (λ i. WriteRequest x.operation i w.object w.version w.value ∷ [])
       (λ i l. (
         subst (λ (q : ℕ). (Begun W q) × Wrote ((next (hears (ClockAnswer a p c))).op q) w.object w.version w.value) (sym own)
@@ -103,15 +105,16 @@ module _ (P : Params) (small : Small P) (lawful : Lawful P.inputs) (W : World) (
         tt,
       ))
 
-  clock_news_lem : (a p c : ℕ) → (h : May P (hears (ClockAnswer a p c)) W) → (y : Operation) → W.op p ≡ y
-      → All (MsgOk P (next (hears (ClockAnswer a p c)))) (clock_news P a c y)
-  unfolding clock_news
-  clock_news_lem a p c h unused e = tt
-  clock_news_lem a p c h (asking x) e = cond_both (knows_clock P.inputs (hears_clock a c x)) (write_requests P.counts.n (gets_version (hears_clock a c x))) []
-      (λ (new : List Message). All (MsgOk P (next (hears (ClockAnswer a p c)))) new) (requests_ok a p c h x e) (λ _. tt)
-  clock_news_lem a p c h (sending w) e = tt
-  clock_news_lem a p c h (reading r) e = tt
-  clock_news_lem a p c h ended e = tt
+  sends_ok : (m : Message) (y : Operation) → May P (hears m) W → W.op (answered m) ≡ y → All (MsgOk P (next (hears m))) (reaction P m y).sends
+  sends_ok = every_reaction P.inputs P.outputs (λ m y r. May P (hears m) W → W.op (answered m) ≡ y → All (MsgOk P (next (hears m))) r.sends) (record {
+    stays = λ m y n h e. tt;
+    asks = λ a p c x t h e. tt;
+    gets = λ a p c x t h e. requests_ok a p c h x e t;
+    sends = λ a p s w t h e. tt;
+    writes = λ a p s w t h e. tt;
+    gathers = λ b p v x r t h e. tt;
+    reads = λ b p v x r t h e. tt;
+  })
 
   read_news : (p b o : ℕ) → (h : May P (hears (ReadRequest p b o)) W)
       → All (MsgOk P (next (hears (ReadRequest p b o)))) (answers_read P.inputs b p P.counts.n o (W.out b))
@@ -162,12 +165,12 @@ module _ (P : Params) (small : Small P) (lawful : Lawful P.inputs) (W : World) (
             tt,
           )))
       go (hears (ClockQuestion p a)) h g = more (hears (ClockQuestion p a)) g (answers_clock a p (W.inp a)) (msg_at (ClockQuestion p a) h.0, tt)
-      go (hears (ClockAnswer a p c)) h g = more (hears (ClockAnswer a p c)) g (clock_news P a c (W.op p)) (clock_news_lem a p c h (W.op p) refl)
+      go (hears (ClockAnswer a p c)) h g = more (hears (ClockAnswer a p c)) g _ (sends_ok (ClockAnswer a p c) (W.op p) h refl)
       go (hears (WriteRequest p a o v x)) h g = more (hears (WriteRequest p a o v x)) g
           (answers_write a p P.counts.m o (after_write P.counts.m o v x (W.inp a))) (writes_news a p o v x h)
-      go (hears (WriteAnswer a p t)) h g = more (hears (WriteAnswer a p t)) g [] tt
+      go (hears (WriteAnswer a p t)) h g = more (hears (WriteAnswer a p t)) g _ (sends_ok (WriteAnswer a p t) (W.op p) h refl)
       go (hears (ReadRequest p b o)) h g = more (hears (ReadRequest p b o)) g (answers_read P.inputs b p P.counts.n o (W.out b)) (read_news p b o h)
-      go (hears (ReadAnswer b p v x)) h g = more (hears (ReadAnswer b p v x)) g [] tt
+      go (hears (ReadAnswer b p v x)) h g = more (hears (ReadAnswer b p v x)) g _ (sends_ok (ReadAnswer b p v x) (W.op p) h refl)
       go (hears (RenewalRequest b a w o stamp)) h g = more (hears (RenewalRequest b a w o stamp)) g (answers_renewal a P.lease b w o stamp (W.inp a) ∷ []) (
         (λ e. let f = fits_renewal P.counts b a w o stamp h.1 in
             let z = genuine_grows P W (next (hears (RenewalRequest b a w o stamp))) g o (held (W.inp a) o).version (held (W.inp a) o).value (k.held_genuine a o f.input (few o f.object)) in
@@ -181,50 +184,42 @@ module _ (P : Params) (small : Small P) (lawful : Lawful P.inputs) (W : World) (
 
   -- ---- new states of operations
 
-  clock_op : (a p c : ℕ) → (h : May P (hears (ClockAnswer a p c)) W) → (y : Operation) → W.op p ≡ y → OpOk P W p y
-      → OpOk P (next (hears (ClockAnswer a p c))) p (clock_state P a c y)
-  unfolding clock_state clock_news
-  clock_op a p c h unused e ok = tt
-  clock_op a p c h (asking x) e ok =
-      cond_both (knows_clock P.inputs (hears_clock a c x)) (sending (gets_version (hears_clock a c x))) (asking (hears_clock a c x))
-      (λ (y : Operation). OpOk P V p y) sent asked
-    where
-      V : World
-      V = next (hears (ClockAnswer a p c))
+  -- an asking write that heard one clock more
+  module _ (a p c : ℕ) (h : May P (hears (ClockAnswer a p c)) W) (x : Asking) (e : W.op p ≡ asking x) (ok : AskingOk W p x) where
+    asked_next : AskingOk (next (hears (ClockAnswer a p c))) p (hears_clock a c x)
+    asked_next = record {
+      own = ok.own;
+      clocks = λ i b. elim (of_joined x.senders a i (let z = (fits_clock P.counts a p c h.1).sender in let y = small.n_most in omega arith) b) [
+        | inl s ↦ let r = ok.clocks i s in (r.0, any_old (λ z. ClockAnswer i p r.0 ≡ z) W.sent _ r.1, omega (arith, r.2))
+        | inr d ↦ (
+          c,
+          subst (λ (z : ℕ). In (ClockAnswer z p c) (next (hears (ClockAnswer a p c))).sent) d (any_old (λ z. ClockAnswer a p c ≡ z) W.sent _ h.0),
+          omega arith,
+        )
+      ];
+    }
 
-      w : Sending
-      w = gets_version (hears_clock a c x)
+    sent_next : knows_clock P.inputs (hears_clock a c x) ≡ true → SendingOk P (next (hears (ClockAnswer a p c))) p (gets_version (hears_clock a c x))
+    sent_next t = record {
+      own = ok.own;
+      named = λ i j b _ _. absurd (named_none 8 i j b);
+      asked = (0, subst (λ (q : ℕ). In (WriteRequest q 0 w.object w.version w.value) V.sent) ok.own request);
+    }
+      where
+        V : World
+        V = next (hears (ClockAnswer a p c))
 
-      f : ClockFits P.counts a c
-      f = fits_clock P.counts a p c h.1
+        w : Sending
+        w = gets_version (hears_clock a c x)
 
-      asked : knows_clock P.inputs (hears_clock a c x) ≡ false → AskingOk V p (hears_clock a c x)
-      asked _ = record {
-        own = ok.own;
-        clocks = λ i b. elim (of_joined x.senders a i (let z = f.sender in let y = small.n_most in omega arith) b) [
-          | inl s ↦ let r = ok.clocks i s in (r.0, any_old (λ z. ClockAnswer i p r.0 ≡ z) W.sent _ r.1, omega (arith, r.2))
-          | inr d ↦ (c, subst (λ (z : ℕ). In (ClockAnswer z p c) V.sent) d (any_old (λ z. ClockAnswer a p c ≡ z) W.sent _ h.0), omega arith)
-        ];
-      }
+        news : (reaction P (ClockAnswer a p c) (W.op p)).sends ≡ write_requests P.inputs.count w
+        news = ap (λ (y : Operation). (reaction P (ClockAnswer a p c) y).sends) e ∙ ap (λ (r : Reaction). r.sends) (reacts_gets P.inputs P.outputs a p c x t)
 
-      sent : knows_clock P.inputs (hears_clock a c x) ≡ true → SendingOk P V p w
-      sent t = record {
-        own = ok.own;
-        named = λ i j b _ _. absurd (named_none 8 i j b);
-        asked = (0, subst (λ (q : ℕ). In (WriteRequest q 0 w.object w.version w.value) V.sent) ok.own request);
-      }
-        where
-          news : clock_news P a c (W.op p) ≡ write_requests P.counts.n w
-          news = ap (clock_news P a c) e ∙ cond-true (knows_clock P.inputs (hears_clock a c x)) (write_requests P.counts.n w) [] t
-
-          request : In (WriteRequest x.operation 0 w.object w.version w.value) V.sent
-          request = any_new (λ z. WriteRequest x.operation 0 w.object w.version w.value ≡ z) W.sent (clock_news P a c (W.op p))
-              (subst (λ (l : List Message). In (WriteRequest x.operation 0 w.object w.version w.value) l) (sym news)
-              (any_each (λ z. WriteRequest x.operation 0 w.object w.version w.value ≡ z) P.counts.n
-              (λ i. WriteRequest x.operation i w.object w.version w.value ∷ []) 0 small.n_pos (inl refl)))
-  clock_op a p c h (sending w) e ok = op_grows P W (next (hears (ClockAnswer a p c))) (grows P small W k (hears (ClockAnswer a p c)) h) p (sending w) ok
-  clock_op a p c h (reading r) e ok = op_grows P W (next (hears (ClockAnswer a p c))) (grows P small W k (hears (ClockAnswer a p c)) h) p (reading r) ok
-  clock_op a p c h ended e ok = tt
+        request : In (WriteRequest x.operation 0 w.object w.version w.value) V.sent
+        request = any_new (λ z. WriteRequest x.operation 0 w.object w.version w.value ≡ z) W.sent _
+            (subst (λ (l : List Message). In (WriteRequest x.operation 0 w.object w.version w.value) l) (sym news)
+            (any_each (λ z. WriteRequest x.operation 0 w.object w.version w.value ≡ z) P.inputs.count
+            (λ i. WriteRequest x.operation i w.object w.version w.value ∷ []) 0 (let z = small.n_is in let y = small.n_pos in omega arith) (inl refl)))
 
   -- who is named after a write answer stands behind a fence
   pub named_next : (a p : ℕ) (t : MemberSet) → (h : May P (hears (WriteAnswer a p t)) W) → (w : Sending) → W.op p ≡ sending w
@@ -259,23 +254,6 @@ module _ (P : Params) (small : Small P) (lawful : Lawful P.inputs) (W : World) (
           subst (λ (y : Operation). Wrote y o v x) e (msg_at (WriteRequest p r.0 o v x) r.1).1 in
           subst (λ (z : ℕ). Stands P W a j z w.version.0) (sym q.0)
           (subst (λ (z : Version). Stands P W a j o z.0) (sym q.1) s)
-
-  write_op : (a p : ℕ) (t : MemberSet) → (h : May P (hears (WriteAnswer a p t)) W) → (y : Operation) → W.op p ≡ y → OpOk P W p y
-      → OpOk P (next (hears (WriteAnswer a p t))) p (write_state P a t y)
-  unfolding write_state
-  write_op a p t h unused e ok = tt
-  write_op a p t h (asking x) e ok = op_grows P W (next (hears (WriteAnswer a p t))) (grows P small W k (hears (WriteAnswer a p t)) h) p (asking x) ok
-  write_op a p t h (sending w) e ok =
-      let g = grows P small W k (hears (WriteAnswer a p t)) h in
-      cond_both (is_written P.inputs P.outputs (hears_named a t w)) ended (sending (hears_named a t w))
-      (λ (y : Operation). OpOk P (next (hears (WriteAnswer a p t))) p y) (λ _. tt)
-      (λ _. record {
-        own = ok.own;
-        named = named_next a p t h w e;
-        asked = requested_grows P W (next (hears (WriteAnswer a p t))) g p w.object w.version w.value ok.asked;
-      })
-  write_op a p t h (reading r) e ok = op_grows P W (next (hears (WriteAnswer a p t))) (grows P small W k (hears (WriteAnswer a p t)) h) p (reading r) ok
-  write_op a p t h ended e ok = tt
 
   -- what a read has gathered after an answer
   pub heard_next : (b p : ℕ) (v : Version) (x : ℕ) → (h : May P (hears (ReadAnswer b p v x)) W) → (r : Reading) → W.op p ≡ reading r → OpOk P W p (reading r)
@@ -332,16 +310,22 @@ module _ (P : Params) (small : Small P) (lawful : Lawful P.inputs) (W : World) (
           let d : r.object ≡ said.0 = subst (λ (y : Operation). Reads y said.0) e (msg_at (ReadRequest p said.1.0 said.0) said.1.1).1 in
           subst (λ (o : ℕ). Genuine W o v x) (sym d) said.2
 
-  read_op : (b p : ℕ) (v : Version) (x : ℕ) → (h : May P (hears (ReadAnswer b p v x)) W) → (y : Operation) → W.op p ≡ y → OpOk P W p y
-      → OpOk P (next (hears (ReadAnswer b p v x))) p (read_state P b v x y)
-  unfolding read_state
-  read_op b p v x h unused e ok = tt
-  read_op b p v x h (asking a) e ok = op_grows P W (next (hears (ReadAnswer b p v x))) (grows P small W k (hears (ReadAnswer b p v x)) h) p (asking a) ok
-  read_op b p v x h (sending w) e ok = op_grows P W (next (hears (ReadAnswer b p v x))) (grows P small W k (hears (ReadAnswer b p v x)) h) p (sending w) ok
-  read_op b p v x h (reading r) e ok =
-      cond_both (is_read P.outputs (hears_pair b v x r)) ended (reading (hears_pair b v x r))
-      (λ (y : Operation). OpOk P (next (hears (ReadAnswer b p v x))) p y) (λ _. tt) (λ _. heard_next b p v x h r e ok)
-  read_op b p v x h ended e ok = tt
+  op_next : (m : Message) (y : Operation) → May P (hears m) W → W.op (answered m) ≡ y → OpOk P W (answered m) y
+      → OpOk P (next (hears m)) (answered m) (reaction P m y).next
+  op_next = every_reaction P.inputs P.outputs (λ m y r. May P (hears m) W → W.op (answered m) ≡ y → OpOk P W (answered m) y
+      → OpOk P (next (hears m)) (answered m) r.next) (record {
+        stays = λ m y n h e ok. op_grows P W (next (hears m)) (grows P small W k (hears m) h) (answered m) y ok;
+        asks = λ a p c x t h e ok. asked_next a p c h x e ok;
+        gets = λ a p c x t h e ok. sent_next a p c h x e ok t;
+        sends = λ a p s w t h e ok. record {
+          own = ok.own;
+          named = named_next a p s h w e;
+          asked = requested_grows P W (next (hears (WriteAnswer a p s))) (grows P small W k (hears (WriteAnswer a p s)) h) p w.object w.version w.value ok.asked;
+        };
+        writes = λ a p s w t h e ok. tt;
+        gathers = λ b p v x r t h e ok. heard_next b p v x h r e ok;
+        reads = λ b p v x r t h e ok. tt;
+      })
 
   pub ops_next : (a : Act) → (h : May P a W) → (p : ℕ) → Begun (next a) p → OpOk P (next a) p ((next a).op p)
   ops_next a h = go a h (grows P small W k a h)
@@ -361,23 +345,16 @@ module _ (P : Params) (small : Small P) (lawful : Lawful P.inputs) (W : World) (
       nobody i t = false≢true (sym (has_none i) ∙ t)
 
       go : (a : Act) → May P a W → Grows P W (next a) → (p : ℕ) → Begun (next a) p → OpOk P (next a) p ((next a).op p)
-      go (ticks x y) h g p b = old (ticks x y) g p b
       go (writes o x) h g p b = first (writes o x) g (asking (first_asking (W.begun + 1) o x)) (record { own = refl; clocks = λ i t. absurd (nobody i t) }) p b
       go (reads o) h g p b = first (reads o) g (reading (first_reading (W.begun + 1) o))
           (record { own = refl; heard = λ j t. absurd (nobody j t); genuine = inl refl }) p b
-      go (hears (ClockQuestion q a)) h g p b = old (hears (ClockQuestion q a)) g p b
-      go (hears (ClockAnswer a q c)) h g p b = one (hears (ClockAnswer a q c)) g q (clock_state P a c (W.op q))
-          (clock_op a q c h (W.op q) refl (k.ops q (msg_at (ClockAnswer a q c) h.0))) p b
-      go (hears (WriteRequest q a o v x)) h g p b = old (hears (WriteRequest q a o v x)) g p b
-      go (hears (WriteAnswer a q t)) h g p b = one (hears (WriteAnswer a q t)) g q (write_state P a t (W.op q))
-          (write_op a q t h (W.op q) refl (k.ops q (msg_at (WriteAnswer a q t) h.0).0)) p b
-      go (hears (ReadRequest q c o)) h g p b = old (hears (ReadRequest q c o)) g p b
-      go (hears (ReadAnswer c q v x)) h g p b = one (hears (ReadAnswer c q v x)) g q (read_state P c v x (W.op q))
-          (read_op c q v x h (W.op q) refl (k.ops q (msg_at (ReadAnswer c q v x) h.0).0)) p b
-      go (hears (RenewalRequest c a w o stamp)) h g p b = old (hears (RenewalRequest c a w o stamp)) g p b
-      go (hears (RenewalAnswer a c w o v x e stamp len l)) h g p b = old (hears (RenewalAnswer a c w o v x e stamp len l)) g p b
-      go (hears (Invalidation a c o v)) h g p b = old (hears (Invalidation a c o v)) g p b
-      go (hears (InvalidationAnswer c a l)) h g p b = old (hears (InvalidationAnswer c a l)) g p b
+      go (hears (ClockAnswer a q c)) h g p b = one (hears (ClockAnswer a q c)) g q _
+          (op_next (ClockAnswer a q c) (W.op q) h refl (k.ops q (msg_at (ClockAnswer a q c) h.0))) p b
+      go (hears (WriteAnswer a q t)) h g p b = one (hears (WriteAnswer a q t)) g q _
+          (op_next (WriteAnswer a q t) (W.op q) h refl (k.ops q (msg_at (WriteAnswer a q t) h.0).0)) p b
+      go (hears (ReadAnswer c q v x)) h g p b = one (hears (ReadAnswer c q v x)) g q _
+          (op_next (ReadAnswer c q v x) (W.op q) h refl (k.ops q (msg_at (ReadAnswer c q v x) h.0).0)) p b
+      go a h g p b = old a g p b
 
   -- ---- everything
 

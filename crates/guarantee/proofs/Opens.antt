@@ -17,7 +17,8 @@ use Rattle.rules.specs.Lists.{each}
 use Rattle.numbers.specs.Numbers.{none, starting, between, longest, clock_of}
 use Rattle.rules.specs.Operation.{Operation}
 use Rattle.rules.specs.Output.{Output, no_newest, no_copy, no_link, newest_of, link, copy_of, first_output}
-use Rattle.rules.specs.State.{State, accepted, Outcome, outcome, refuse}
+use Rattle.rules.specs.Said.{accepted}
+use Rattle.rules.specs.State.{State, Outcome, outcome, refuse}
 use Rattle.guarantee.specs.Story.{Call, to_open, to_advance, to_write, to_read, to_deliver, outcome_of}
 use Rattle.guarantee.proofs.Bridge.{params_of, Framed}
 use Rattle.guarantee.proofs.CallSteps.{Refuses}

@@ -1,68 +1,42 @@
 -- What an answer leaves of an operation: nothing that it wrote or reads is taken back, and what it gathers is in the log.
 use Rattle.std.proofs.Common.{◌≡◌, ℕ, zero, suc, ◌<◌, ◌≤◌, Bool, true, false, cond, ltb, ◌⊎◌, List, set, replicate, sym, refl, ◌∙◌, subst, inl, inr}
 use lib.Bits.{bit_or}
-use Rattle.std.proofs.lemmas.Bool.{cond_both, ltb-true, ltb-false, or_cases, false≢true}
+use Rattle.std.proofs.lemmas.Bool.{ltb-true, ltb-false, or_cases, false≢true}
 use Rattle.quorum.specs.declared.member_set.MemberSet.{MemberSet}
 use Rattle.quorum.specs.Sets.{has}
 use Rattle.numbers.specs.declared.version.Version.{Version}
-use Rattle.rules.specs.Operation.{Operation, unused, asking, sending, reading, ended, Reading, named_by, hears_named, is_written, hears_pair, is_read}
+use Rattle.rules.specs.declared.message.Message.{Message}
+use Rattle.rules.specs.Operation.{Operation, Reading, named_by, hears_pair}
+use Rattle.rules.proofs.Reactions.{every_reaction}
 use Rattle.guarantee.proofs.Sets.{has_or, has_none}
 use Rattle.guarantee.proofs.Words.{at, at_cases, set_from}
-use Rattle.guarantee.proofs.World.{Params, clock_state, write_state, read_state}
+use Rattle.guarantee.proofs.World.{Params, reaction}
 use Rattle.guarantee.proofs.Kept.{Wrote, Reads}
 
 -- ---- nothing is taken back
 
 module _ (P : Params) where
-  pub wrote_clock : (i c : ℕ) (y : Operation) (o : ℕ) (v : Version) (x : ℕ) → Wrote y o v x → Wrote (clock_state P i c y) o v x
-  unfolding clock_state
-  wrote_clock i c unused o v x h = h
-  wrote_clock i c (asking a) o v x h = absurd h
-  wrote_clock i c (sending w) o v x h = h
-  wrote_clock i c (reading r) o v x h = h
-  wrote_clock i c ended o v x h = h
+  pub wrote_up : (m : Message) (y : Operation) (o : ℕ) (v : Version) (x : ℕ) → Wrote y o v x → Wrote (reaction P m y).next o v x
+  wrote_up = every_reaction P.inputs P.outputs (λ m y r. (o : ℕ) (v : Version) (x : ℕ) → Wrote y o v x → Wrote r.next o v x) (record {
+    stays = λ m y n o v x h. h;
+    asks = λ i p c a e o v x h. absurd h;
+    gets = λ i p c a e o v x h. absurd h;
+    sends = λ i p t w e o v x h. h;
+    writes = λ i p t w e o v x h. tt;
+    gathers = λ j p u z r e o v x h. absurd h;
+    reads = λ j p u z r e o v x h. absurd h;
+  })
 
-  pub wrote_write : (i : ℕ) (t : MemberSet) (y : Operation) (o : ℕ) (v : Version) (x : ℕ) → Wrote y o v x → Wrote (write_state P i t y) o v x
-  unfolding write_state
-  wrote_write i t unused o v x h = h
-  wrote_write i t (asking a) o v x h = h
-  wrote_write i t (sending w) o v x h =
-      cond_both (is_written P.inputs P.outputs (hears_named i t w)) ended (sending (hears_named i t w)) (λ y. Wrote y o v x) (λ _. tt) (λ _. h)
-  wrote_write i t (reading r) o v x h = h
-  wrote_write i t ended o v x h = h
-
-  pub wrote_read : (j : ℕ) (u : Version) (z : ℕ) (y : Operation) (o : ℕ) (v : Version) (x : ℕ) → Wrote y o v x → Wrote (read_state P j u z y) o v x
-  unfolding read_state
-  wrote_read j u z unused o v x h = h
-  wrote_read j u z (asking a) o v x h = h
-  wrote_read j u z (sending w) o v x h = h
-  wrote_read j u z (reading r) o v x h = absurd h
-  wrote_read j u z ended o v x h = h
-
-  pub reads_clock : (i c : ℕ) (y : Operation) (o : ℕ) → Reads y o → Reads (clock_state P i c y) o
-  unfolding clock_state
-  reads_clock i c unused o h = h
-  reads_clock i c (asking a) o h = absurd h
-  reads_clock i c (sending w) o h = h
-  reads_clock i c (reading r) o h = h
-  reads_clock i c ended o h = h
-
-  pub reads_write : (i : ℕ) (t : MemberSet) (y : Operation) (o : ℕ) → Reads y o → Reads (write_state P i t y) o
-  unfolding write_state
-  reads_write i t unused o h = h
-  reads_write i t (asking a) o h = h
-  reads_write i t (sending w) o h = absurd h
-  reads_write i t (reading r) o h = h
-  reads_write i t ended o h = h
-
-  pub reads_read : (j : ℕ) (u : Version) (z : ℕ) (y : Operation) (o : ℕ) → Reads y o → Reads (read_state P j u z y) o
-  unfolding read_state
-  reads_read j u z unused o h = h
-  reads_read j u z (asking a) o h = h
-  reads_read j u z (sending w) o h = h
-  reads_read j u z (reading r) o h =
-      cond_both (is_read P.outputs (hears_pair j u z r)) ended (reading (hears_pair j u z r)) (λ y. Reads y o) (λ _. tt) (λ _. h)
-  reads_read j u z ended o h = h
+  pub reads_up : (m : Message) (y : Operation) (o : ℕ) → Reads y o → Reads (reaction P m y).next o
+  reads_up = every_reaction P.inputs P.outputs (λ m y r. (o : ℕ) → Reads y o → Reads r.next o) (record {
+    stays = λ m y n o h. h;
+    asks = λ i p c a e o h. absurd h;
+    gets = λ i p c a e o h. absurd h;
+    sends = λ i p t w e o h. absurd h;
+    writes = λ i p t w e o h. absurd h;
+    gathers = λ j p u z r e o h. h;
+    reads = λ j p u z r e o h. tt;
+  })
 
 -- a fact of an operation's state, where one operation got a new state
 pub moved_op : (X : Operation → Type 0) (q : ℕ) (y : Operation) (f : ℕ → Operation) → (X (f q) → X y) → (p : ℕ) → X (f p) → X (at q y f p)

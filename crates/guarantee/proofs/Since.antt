@@ -1,6 +1,6 @@
 -- From the end of a write on: what the read answers and clock answers to a later operation know of it.
 use Rattle.std.proofs.Common.{◌≡◌, ℕ, ◌+◌, ◌*◌, ◌/◌, ◌<◌, ◌≤◌, max, true, List, [], ◌∷◌, ◌++◌, sym, refl, ap, subst, inl, inr, append-nil, arith}
-use Rattle.std.proofs.lemmas.Bool.{cond_both, and_parts}
+use Rattle.std.proofs.lemmas.Bool.{and_parts}
 use Rattle.quorum.specs.declared.member_set.MemberSet.{MemberSet}
 use Rattle.quorum.specs.Sets.{has, joined, set_of}
 use Rattle.quorum.specs.Systems.{Lawful}
@@ -8,7 +8,7 @@ use Rattle.rules.specs.declared.message.Message.{Message}
 use Rattle.rules.specs.declared.message.Message.TheVariants.{ClockQuestion, ClockAnswer, WriteRequest, WriteAnswer, ReadRequest, ReadAnswer, RenewalRequest, RenewalAnswer, Invalidation, InvalidationAnswer}
 use Rattle.numbers.specs.declared.version.Version.{Version}
 use Rattle.rules.specs.Input.{after_write}
-use Rattle.rules.specs.Operation.{Operation, unused, asking, sending, reading, ended, named_by, counts, write_requests, gets_version, hears_clock, knows_clock, hears_named, hears_pair}
+use Rattle.rules.specs.Operation.{Operation, asking, named_by, counts, hears_named, hears_pair}
 use Rattle.rules.specs.Output.{newest_of, valid, covers, good}
 use Rattle.guarantee.proofs.Fence.{pass}
 use Rattle.guarantee.proofs.Bridge.{news_of}
@@ -19,25 +19,16 @@ use Rattle.guarantee.proofs.Keeps.{grows}
 use Rattle.guarantee.proofs.Kept.{slow, view, Begun, Named, OpOk, AskingOk, ReadingOk, Small, Kept, May, Grows, begun_grows}
 use Rattle.guarantee.proofs.Next.{named_next, heard_next}
 use Rattle.guarantee.proofs.OutputMoves as Outs
+use Rattle.guarantee.proofs.Reacting.{sends_requests}
 use Rattle.guarantee.proofs.Sets.{of_set_of, of_joined}
 use Rattle.guarantee.proofs.Words.{In, All, all-++, all_at, each_all}
-use Rattle.guarantee.proofs.World.{Params, World, Act, ticks, writes, reads, hears, run, clock_news}
+use Rattle.guarantee.proofs.World.{Params, World, Act, ticks, writes, reads, hears, run, reaction}
 
 -- what an act logs is what joins the log
 pub sent_is : (P : Params) (W : World) (a : Act) → (run P a W).sent ≡ W.sent ++ news_of P a W
 sent_is P W (ticks x y) = sym (append-nil W.sent)
-sent_is P W (writes o x) = refl
-sent_is P W (reads o) = refl
 sent_is P W (hears (ClockQuestion p i)) = refl
-sent_is P W (hears (ClockAnswer i p c)) = refl
-sent_is P W (hears (WriteRequest p i o v x)) = refl
-sent_is P W (hears (WriteAnswer i p t)) = refl
-sent_is P W (hears (ReadRequest p j o)) = refl
-sent_is P W (hears (ReadAnswer j p v x)) = refl
-sent_is P W (hears (RenewalRequest j i a o stamp)) = refl
-sent_is P W (hears (RenewalAnswer i j a o v x e stamp len l)) = refl
-sent_is P W (hears (Invalidation i j o v)) = refl
-sent_is P W (hears (InvalidationAnswer j i l)) = refl
+sent_is P W a = refl
 
 -- a fact of every message, where only some kinds say anything
 pub record Plain (X : Message → Type 0) : Type 0 where
@@ -48,17 +39,8 @@ pub record Plain (X : Message → Type 0) : Type 0 where
   pub invalidations : (i j o : ℕ) (v : Version) → X (Invalidation i j o v)
   pub invalidation_answers : (j i : ℕ) (l : _) → X (InvalidationAnswer j i l)
 
-requests_plain : (X : Message → Type 0) → Plain X → (P : Params) (i c : ℕ) (y : Operation) → All X (clock_news P i c y)
-unfolding clock_news
-requests_plain X f P i c unused = tt
-requests_plain X f P i c (asking a) = cond_both (knows_clock P.inputs (hears_clock i c a)) (write_requests P.counts.n (gets_version (hears_clock i c a))) []
-    (λ (new : List Message). All X new)
-    (λ _. each_all X P.counts.n (λ k. WriteRequest a.operation k a.object (gets_version (hears_clock i c a)).version a.value ∷ [])
-    (λ k l. (f.requests a.operation k a.object (gets_version (hears_clock i c a)).version a.value, tt)))
-    (λ _. tt)
-requests_plain X f P i c (sending w) = tt
-requests_plain X f P i c (reading r) = tt
-requests_plain X f P i c ended = tt
+reaction_plain : (X : Message → Type 0) → Plain X → (P : Params) (m : Message) (y : Operation) → All X (reaction P m y).sends
+reaction_plain X f P = sends_requests P.inputs P.outputs X f.requests
 
 -- such a fact holds of all that an act logs, if it holds of clock questions, clock answers, read requests and read answers
 pub news_plain : (X : Message → Type 0) → Plain X → (P : Params) (W : World)
@@ -72,13 +54,13 @@ news_plain X f P W cq rq (ticks x y) ca ra = tt
 news_plain X f P W cq rq (writes o x) ca ra = each_all X P.counts.n (λ i. ClockQuestion (W.begun + 1) i ∷ []) (λ i l. (cq i, tt))
 news_plain X f P W cq rq (reads o) ca ra = each_all X P.counts.m (λ j. ReadRequest (W.begun + 1) j o ∷ []) (λ j l. (rq o j, tt))
 news_plain X f P W cq rq (hears (ClockQuestion p i)) ca ra = (ca p i refl, tt)
-news_plain X f P W cq rq (hears (ClockAnswer i p c)) ca ra = requests_plain X f P i c (W.op p)
+news_plain X f P W cq rq (hears (ClockAnswer i p c)) ca ra = reaction_plain X f P (ClockAnswer i p c) (W.op p)
 news_plain X f P W cq rq (hears (WriteRequest p i o v x)) ca ra =
     Ins.names3 X i p P.counts.m o (after_write P.counts.m o v x (W.inp i)) (λ j. f.invalidations i j o _) (f.answers i p _)
-news_plain X f P W cq rq (hears (WriteAnswer i p t)) ca ra = tt
+news_plain X f P W cq rq (hears (WriteAnswer i p t)) ca ra = reaction_plain X f P (WriteAnswer i p t) (W.op p)
 news_plain X f P W cq rq (hears (ReadRequest p j o)) ca ra =
     Outs.read_all P.inputs j p P.counts.n o (W.out j) X (ra p j o refl) (λ i l w. f.renewal_requests j i w o _)
-news_plain X f P W cq rq (hears (ReadAnswer j p v x)) ca ra = tt
+news_plain X f P W cq rq (hears (ReadAnswer j p v x)) ca ra = reaction_plain X f P (ReadAnswer j p v x) (W.op p)
 news_plain X f P W cq rq (hears (RenewalRequest j i a o stamp)) ca ra = (f.renewal_answers i j a o _ _ _ _ _ _, tt)
 news_plain X f P W cq rq (hears (RenewalAnswer i j a o v x e stamp len l)) ca ra = Outs.ack_all X j i l (f.invalidation_answers j i l)
 news_plain X f P W cq rq (hears (Invalidation i j o v)) ca ra = (f.invalidation_answers j i _, tt)

@@ -1,38 +1,31 @@
 -- Each accepted call moves each channel as a step may.
 use Rattle.std.proofs.Common.{◌≡◌, ℕ, ◌+◌, ◌<◌, List, [], ◌∷◌, ◌++◌, sym, ap, subst, subst₂, inl, inr, append-nil, arith}
-use Rattle.std.proofs.lemmas.Bool.{cases_eq, cond_both}
+use Rattle.std.proofs.lemmas.Bool.{cases_eq}
 use Rattle.rules.specs.declared.message.Message.{Message}
 use Rattle.rules.specs.declared.message.Message.TheVariants.{ClockQuestion, ClockAnswer, WriteRequest, WriteAnswer, ReadRequest, ReadAnswer, RenewalRequest, RenewalAnswer, Invalidation, InvalidationAnswer}
 use Rattle.rules.specs.declared.pairs.Pair.{Pair}
 use Rattle.rules.specs.Input.{Input, answers_clock, after_write, answers_write, after_renewal, answers_renewal, acknowledges_all}
 use Rattle.rules.specs.Lists.{list_of, each}
-use Rattle.rules.specs.Operation.{Operation, unused, asking, sending, reading, ended, clock_questions, read_requests, write_requests, gets_version, hears_clock, knows_clock}
+use Rattle.rules.specs.Operation.{Operation, clock_questions, read_requests}
 use Rattle.rules.specs.Output.{Output, answers_read, after_answer, acknowledgement, after_invalidation, answers_invalidation}
 use Rattle.guarantee.proofs.View.{Part, Moves}
 use Rattle.guarantee.proofs.Channel.{Says, view_of, Quiet, InputShape}
-use Rattle.guarantee.proofs.Words.{at, at_cases, Any, All, all_map, each_all}
-use Rattle.guarantee.proofs.World.{Params, World, Act, ticks, writes, reads, hears, run, clock_news}
+use Rattle.guarantee.proofs.Words.{at, at_cases, All, all_map, each_all}
+use Rattle.guarantee.proofs.World.{Params, World, Act, ticks, writes, reads, hears, run, reaction}
 use Rattle.guarantee.proofs.Fits.{RenewalFits, RenewedFits, InvalidationFits, AckFits, fits_request, fits_renewal, fits_renewed, fits_invalidation, fits_ack}
 use Rattle.guarantee.proofs.Kept.{Kept, Small, May, slow, view}
 use Rattle.guarantee.proofs.InputMoves as Ins
 use Rattle.guarantee.proofs.OutputMoves as Outs
+use Rattle.guarantee.proofs.Reacting.{sends_requests}
 
 -- messages of operations say nothing between servers
 quiet_each : (i j n : ℕ) (f : ℕ → Message) → ((k : ℕ) (q : Part) → Says i j q (f k) → ⊥) → Quiet i j (each n (λ k. f k ∷ []))
 quiet_each i j n f h = Ins.quiet_all i j (each n (λ k. f k ∷ []))
     (each_all (λ y. (q : Part) → Says i j q y → ⊥) n (λ k. f k ∷ []) (λ k l. (h k, tt)))
 
-quiet_clock : (P : Params) (i j k c : ℕ) (x : Operation) → Quiet i j (clock_news P k c x)
-unfolding clock_news
-quiet_clock P i j k c unused q h = h
-quiet_clock P i j k c (asking a) q h =
-    cond_both (knows_clock P.inputs (hears_clock k c a)) (write_requests P.counts.n (gets_version (hears_clock k c a))) []
-    (λ new. Any (Says i j q) new → ⊥)
-    (λ _. quiet_each i j P.counts.n (λ i. WriteRequest a.operation i a.object (gets_version (hears_clock k c a)).version a.value) (λ _ _ h. h) q)
-    (λ _ h. h) h
-quiet_clock P i j k c (sending w) q h = h
-quiet_clock P i j k c (reading r) q h = h
-quiet_clock P i j k c ended q h = h
+quiet_reaction : (P : Params) (i j : ℕ) (m : Message) (x : Operation) → Quiet i j (reaction P m x).sends
+quiet_reaction P i j m x = Ins.quiet_all i j (reaction P m x).sends
+    (sends_requests P.inputs P.outputs (λ y. (q : Part) → Says i j q y → ⊥) (λ _ _ _ _ _ _ h. h) m x)
 
 module _ (P : Params) (small : Small P) (W : World) (k : Kept P W) (i j : ℕ) (i<n : i < P.counts.n) (j<m : j < P.counts.m) where
   abbrev L : ℕ
@@ -71,7 +64,7 @@ module _ (P : Params) (small : Small P) (W : World) (k : Kept P W) (i j : ℕ) (
       (λ e. subst (λ (z : ℕ). Moves L R (view W i j) (view_of (W.inp z) (W.out j) i j (W.sent ++ answers_clock a p (W.inp a)))) (sym e)
       (still (answers_clock a p (W.inp a)) (λ q x. elim x [ inl y ↦ y | inr y ↦ y ])))
       (λ _ q x. elim x [ inl y ↦ y | inr y ↦ y ])
-  moves_hears (ClockAnswer a p c) h = still (clock_news P a c (W.op p)) (quiet_clock P i j a c (W.op p))
+  moves_hears (ClockAnswer a p c) h = still _ (quiet_reaction P i j (ClockAnswer a p c) (W.op p))
   moves_hears (WriteRequest p a o v x) h = at_input_lem a J new
       (λ e. subst (λ (z : ℕ). Moves L R (view_of (W.inp z) (W.out j) i j W.sent) (view_of J (W.out j) i j (W.sent ++ new))) e
       (Ins.moves3 L R P.counts.m o v x (W.inp a) (W.out j) i j new W.sent (k.in_shape a (fits_request P.counts p a o v x h.1).receiver)
@@ -83,12 +76,12 @@ module _ (P : Params) (small : Small P) (W : World) (k : Kept P W) (i j : ℕ) (
 
       new : List Message
       new = answers_write a p P.counts.m o J
-  moves_hears (WriteAnswer a p t) h = still [] (λ q x. x)
+  moves_hears (WriteAnswer a p t) h = still _ (quiet_reaction P i j (WriteAnswer a p t) (W.op p))
   moves_hears (ReadRequest p b o) h = at_output_lem b (W.out b) (answers_read P.inputs b p P.counts.n o (W.out b))
       (λ e. subst (λ (z : ℕ). Moves L R (view W i j) (view_of (W.inp i) (W.out z) i j (W.sent ++ answers_read P.inputs b p P.counts.n o (W.out b)))) (sym e)
       (Outs.moves5 L R P.inputs b p P.counts.n o (W.inp i) (W.out j) (W.out b) i j W.sent (λ f. ap W.out f)))
       (λ n q x. n (Outs.asked5 P.inputs b p P.counts.n o (W.out b) i j q x).0)
-  moves_hears (ReadAnswer b p v x) h = still [] (λ q x. x)
+  moves_hears (ReadAnswer b p v x) h = still _ (quiet_reaction P i j (ReadAnswer b p v x) (W.op p))
   moves_hears (RenewalRequest b a w o stamp) h = at_input_lem a J new
       (λ e. elim (cases_eq b j) [
         | inl d ↦ subst₂ (λ (x y : ℕ). Moves L R (view_of (W.inp x) (W.out y) x y W.sent) (view_of J (W.out y) x y (W.sent ++ new))) e d

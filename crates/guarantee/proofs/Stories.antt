@@ -1,14 +1,17 @@
 -- The read guarantee, over every story.
-use Rattle.std.proofs.Common.{◌≡◌, ℕ, zero, suc, ◌+◌, ◌-◌, ◌<◌, ◌≤◌, Bool, true, false, cond, ◌⊎◌, List, [], ◌∷◌, length, get_or, take, drop, sym, refl, ap, ◌∙◌, subst, inl, inr, arith}
-use Rattle.std.proofs.lemmas.Bool.{cases_lt, cases_order, cond_both}
+use Rattle.std.proofs.Common.{◌≡◌, ℕ, zero, suc, ◌+◌, ◌-◌, ◌<◌, ◌≤◌, true, false, ◌⊎◌, List, [], ◌∷◌, length, get_or, take, drop, sym, refl, ap, ◌∙◌, subst, inl, inr, arith}
+use Rattle.std.proofs.lemmas.Bool.{cases_lt, cases_order}
 use Rattle.quorum.specs.declared.member_set.MemberSet.{MemberSet}
 use Rattle.quorum.specs.Sets.{full, set_of}
 use Rattle.quorum.specs.Systems.{Lawful}
 use Rattle.rules.specs.declared.message.Message.{Message}
 use Rattle.rules.specs.declared.message.Message.TheVariants.{ClockQuestion, ClockAnswer, WriteRequest, WriteAnswer, ReadRequest, ReadAnswer, RenewalRequest, RenewalAnswer, Invalidation, InvalidationAnswer}
 use Rattle.numbers.specs.declared.version.Version.{Version}
-use Rattle.rules.specs.Operation.{Operation, unused, asking, sending, reading, ended, Asking, Reading, counts, clock_questions, read_requests, first_asking, first_reading, hears_clock, knows_clock, gets_version, hears_named, is_written, hears_pair, is_read}
-use Rattle.rules.specs.State.{Frame, State, refused, accepted, began, Outcome, refuse}
+use Rattle.rules.specs.Operation.{Operation, unused, asking, sending, reading, ended, Asking, Reading, counts, clock_questions, read_requests, first_asking, first_reading, hears_clock, gets_version, hears_pair}
+use Rattle.rules.specs.Reaction.{Reaction}
+use Rattle.rules.proofs.Reactions.{every_reaction}
+use Rattle.rules.specs.Said.{refused, accepted, began}
+use Rattle.rules.specs.State.{Frame, State, Outcome, refuse}
 use Rattle.guarantee.specs.Story.{Story, Call, to_open, to_advance, to_write, to_read, to_deliver, outcome_of, call_at, before, said_at, logged_at, part, Has, BeginsWrite, BeginsRead, Gets, EndsWrite, EndsRead}
 use Rattle.guarantee.specs.Guarantee.{NeverBehind, NeverInvented, AlwaysRising, OneVersion, Written, EndOf, Guarantee, EveryStory}
 use Rattle.guarantee.proofs.Bridge.{params_of, act_of, says_of, news_of, Framed, Accepted, none_logged}
@@ -20,10 +23,11 @@ use Rattle.guarantee.proofs.Kept.{Begun, Genuine, MsgOk, OpOk, AskingOk, Sending
 use Rattle.guarantee.proofs.Next.{keeps, heard_next}
 use Rattle.guarantee.proofs.Opens.{closed_step}
 use Rattle.guarantee.proofs.Operations.{pair_from}
+use Rattle.guarantee.proofs.Reacting.{reacts_gets}
 use Rattle.guarantee.proofs.Sets.{of_set_of}
 use Rattle.guarantee.proofs.Since.{sent_is, Settled, settled_grows, settles, SinceRead, since_read, read_not_behind, SinceWrite, since_write, version_rises, Late, Wise}
 use Rattle.guarantee.proofs.Words.{at, at_cases, at_same, In, any_split, All, all_map, all-++, all_at, each_all}
-use Rattle.guarantee.proofs.World.{Params, World, Act, writes, reads, hears, run, world_of, clock_state, write_state, read_state}
+use Rattle.guarantee.proofs.World.{Params, World, Act, writes, reads, hears, run, world_of, reaction}
 
 never : {A : Type 0} → ◌≡◌ {A = ℕ} 0 1 → A
 never h = absurd (omega arith)
@@ -163,32 +167,16 @@ module _ (S : Story) (in_lawful : Lawful S.inputs) (out_lawful : Lawful S.output
   }
 
   -- answers leave object and value of an operation
-  traced_clock : (P : Params) (t p i c : ℕ) (y : Operation) → OpTraced t p y → OpTraced t p (clock_state P i c y)
-  unfolding clock_state
-  traced_clock P t p i c unused h = h
-  traced_clock P t p i c (asking a) h = cond_both (knows_clock P.inputs (hears_clock i c a)) (sending (gets_version (hears_clock i c a))) (asking (hears_clock i c a))
-      (λ (y : Operation). OpTraced t p y) (λ _. h) (λ _. h)
-  traced_clock P t p i c (sending w) h = h
-  traced_clock P t p i c (reading r) h = h
-  traced_clock P t p i c ended h = h
-
-  traced_write : (P : Params) (t p i : ℕ) (s : MemberSet) (y : Operation) → OpTraced t p y → OpTraced t p (write_state P i s y)
-  unfolding write_state
-  traced_write P t p i s unused h = h
-  traced_write P t p i s (asking a) h = h
-  traced_write P t p i s (sending w) h = cond_both (is_written P.inputs P.outputs (hears_named i s w)) ended (sending (hears_named i s w))
-      (λ (y : Operation). OpTraced t p y) (λ _. tt) (λ _. h)
-  traced_write P t p i s (reading r) h = h
-  traced_write P t p i s ended h = h
-
-  traced_read : (P : Params) (t p j : ℕ) (v : Version) (x : ℕ) (y : Operation) → OpTraced t p y → OpTraced t p (read_state P j v x y)
-  unfolding read_state
-  traced_read P t p j v x unused h = h
-  traced_read P t p j v x (asking a) h = h
-  traced_read P t p j v x (sending w) h = h
-  traced_read P t p j v x (reading r) h = cond_both (is_read P.outputs (hears_pair j v x r)) ended (reading (hears_pair j v x r))
-      (λ (y : Operation). OpTraced t p y) (λ _. tt) (λ _. h)
-  traced_read P t p j v x ended h = h
+  traced_up : (P : Params) (t p : ℕ) (m : Message) (y : Operation) → OpTraced t p y → OpTraced t p (reaction P m y).next
+  traced_up P t p = every_reaction P.inputs P.outputs (λ m y r. OpTraced t p y → OpTraced t p r.next) (record {
+    stays = λ m y n h. h;
+    asks = λ i q c a e h. h;
+    gets = λ i q c a e h. h;
+    sends = λ i q s w e h. h;
+    writes = λ i q s w e h. tt;
+    gathers = λ j q v x r e h. h;
+    reads = λ j q v x r e h. tt;
+  })
 
   -- ---- one call more
 
@@ -202,8 +190,7 @@ module _ (S : Story) (in_lawful : Lawful S.inputs) (out_lawful : Lawful S.output
     ops_next c e h = go c e h
       where
         old : (a : Act) (p : ℕ) → Begun W p → OpTraced (suc t) p ((run P a W).op p)
-        old a p b = ops_up P l.small W l.kept (OpTraced (suc t) p) (λ i c y. traced_clock P (suc t) p i c y) (λ i s y. traced_write P (suc t) p i s y)
-            (λ j v x y. traced_read P (suc t) p j v x y) a p b (op_later t p (W.op p) (T.ops p b))
+        old a p b = ops_up P l.small W l.kept (OpTraced (suc t) p) (traced_up P (suc t) p) a p b (op_later t p (W.op p) (T.ops p b))
 
         first : (p : ℕ) (y : Operation) → OpTraced (suc t) (W.begun + 1) y → (1 ≤ p) × (p ≤ W.begun + 1) → OpTraced (suc t) p (at (W.begun + 1) y W.op p)
         first p y n b = at_cases (OpTraced (suc t) p) (W.begun + 1) p y W.op (λ e. subst (λ (z : ℕ). OpTraced (suc t) z y) e n)
@@ -211,15 +198,7 @@ module _ (S : Story) (in_lawful : Lawful S.inputs) (out_lawful : Lawful S.output
 
         heard : (m : Message) (p : ℕ) → Begun (run P (hears m) W) p → OpTraced (suc t) p ((run P (hears m) W).op p)
         heard (ClockQuestion q i) p b = old (hears (ClockQuestion q i)) p b
-        heard (ClockAnswer i q c) p b = old (hears (ClockAnswer i q c)) p b
-        heard (WriteRequest q i o v x) p b = old (hears (WriteRequest q i o v x)) p b
-        heard (WriteAnswer i q s) p b = old (hears (WriteAnswer i q s)) p b
-        heard (ReadRequest q j o) p b = old (hears (ReadRequest q j o)) p b
-        heard (ReadAnswer j q v x) p b = old (hears (ReadAnswer j q v x)) p b
-        heard (RenewalRequest j i a o s) p b = old (hears (RenewalRequest j i a o s)) p b
-        heard (RenewalAnswer i j a o v x e s n k) p b = old (hears (RenewalAnswer i j a o v x e s n k)) p b
-        heard (Invalidation i j o v) p b = old (hears (Invalidation i j o v)) p b
-        heard (InvalidationAnswer j i k) p b = old (hears (InvalidationAnswer j i k)) p b
+        heard m p b = old (hears m) p b
 
         go : (c : Call) → call_at S t ≡ c → Accepted P (before S t) (act_of (before S t) c) (outcome_at t)
             → (p : ℕ) → Begun (run P (act_of (before S t) c) W) p → OpTraced (suc t) p ((run P (act_of (before S t) c) W).op p)
@@ -687,8 +666,12 @@ module _ (S : Story) (in_lawful : Lawful S.inputs) (out_lawful : Lawful S.output
       go : (pair.version.0 ≡ 0) ⊎ Genuine V pair.object pair.version pair.value → ((v ≡ 65536) × (z ≡ 0)) ⊎ Written S e o v z
       go (inl d) = absurd (let h = high in omega arith)
       go (inr (inl d)) = inl (sym R.version ∙ ap (λ (n : Version). n.0) d.0, sym R.value ∙ d.1)
-      go (inr (inr d)) = elim (any_split (λ m. WriteRequest d.0 d.1.0 pair.object pair.version pair.value ≡ m) W.sent [] d.1.1) [
-        | inr b ↦ absurd b
+      go (inr (inr d)) = elim (any_split (λ m. WriteRequest d.0 d.1.0 pair.object pair.version pair.value ≡ m) W.sent _ d.1.1) [
+        -- no read answer makes a write send its version
+        | inr b ↦
+            let g = gets_version_lem P W d.0 d.1.0 pair.object pair.version pair.value (hears (ReadAnswer R.from q R.pair_version R.pair_value)) b in
+            let a = g.act in
+            never (cc)
         | inl b ↦ written d.0 (all_at (MsgTraced e) (WriteRequest d.0 d.1.0 pair.object pair.version pair.value) W.sent E.known.traced.msgs b)
       ]
         where
@@ -713,33 +696,19 @@ module _ (S : Story) (in_lawful : Lawful S.inputs) (out_lawful : Lawful S.output
   PastAsking (reading r) = ⊥
   PastAsking ended = Unit {0}
 
-  past_clock : (P : Params) (i c : ℕ) (y : Operation) → PastAsking y → PastAsking (clock_state P i c y)
-  unfolding clock_state
-  past_clock P i c unused h = h
-  past_clock P i c (asking a) h = absurd h
-  past_clock P i c (sending w) h = h
-  past_clock P i c (reading r) h = h
-  past_clock P i c ended h = h
-
-  past_write : (P : Params) (i : ℕ) (s : MemberSet) (y : Operation) → PastAsking y → PastAsking (write_state P i s y)
-  unfolding write_state
-  past_write P i s unused h = h
-  past_write P i s (asking a) h = h
-  past_write P i s (sending w) h = cond_both (is_written P.inputs P.outputs (hears_named i s w)) ended (sending (hears_named i s w)) PastAsking (λ _. tt) (λ _. tt)
-  past_write P i s (reading r) h = h
-  past_write P i s ended h = h
-
-  past_read : (P : Params) (j : ℕ) (v : Version) (x : ℕ) (y : Operation) → PastAsking y → PastAsking (read_state P j v x y)
-  unfolding read_state
-  past_read P j v x unused h = h
-  past_read P j v x (asking a) h = h
-  past_read P j v x (sending w) h = h
-  past_read P j v x (reading r) h = absurd h
-  past_read P j v x ended h = h
+  past_up : (P : Params) (m : Message) (y : Operation) → PastAsking y → PastAsking (reaction P m y).next
+  past_up P = every_reaction P.inputs P.outputs (λ m y r. PastAsking y → PastAsking r.next) (record {
+    stays = λ m y n h. h;
+    asks = λ i p c a e h. absurd h;
+    gets = λ i p c a e h. tt;
+    sends = λ i p s w e h. tt;
+    writes = λ i p s w e h. tt;
+    gathers = λ j p v x r e h. absurd h;
+    reads = λ j p v x r e h. tt;
+  })
 
   -- once it has its version, a write never asks for clocks again
   past_after : (g p v : ℕ) → (G : Getting g p v) → (Begun (world (suc g)) p) × PastAsking ((world (suc g)).op p)
-  unfolding clock_state
   past_after g p v G = subst (λ (V : World). (Begun V p) × PastAsking (V.op p)) (sym G.step.world)
       (subst (λ (a : Act). (Begun (run G.known.P a (world g)) p) × PastAsking ((run G.known.P a (world g)).op p)) (sym G.how.act) (G.begun, past))
     where
@@ -749,11 +718,14 @@ module _ (S : Story) (in_lawful : Lawful S.inputs) (out_lawful : Lawful S.output
       h : GetsVersion P (world g) (act_of (before S g) (call_at S g)) p G.object G.version G.value
       h = G.how
 
-      past : PastAsking (at h.named (clock_state P h.from h.clock ((world g).op h.named)) (world g).op p)
-      past = subst (λ (q : ℕ). PastAsking (at h.named (clock_state P h.from h.clock ((world g).op h.named)) (world g).op q)) G.named
-          (subst PastAsking (sym (at_same h.named (clock_state P h.from h.clock ((world g).op h.named)) (world g).op))
-          (subst (λ (y : Operation). PastAsking (clock_state P h.from h.clock y)) (sym h.op)
-          (subst (λ (b : Bool). PastAsking (cond b (sending (gets_version (hears_clock h.from h.clock h.ask))) (asking (hears_clock h.from h.clock h.ask)))) (sym h.knows) tt)))
+      new : Reaction
+      new = reaction P (ClockAnswer h.from h.named h.clock) ((world g).op h.named)
+
+      past : PastAsking (at h.named new.next (world g).op p)
+      past = subst (λ (q : ℕ). PastAsking (at h.named new.next (world g).op q)) G.named
+          (subst PastAsking (sym (at_same h.named new.next (world g).op))
+          (subst (λ (y : Operation). PastAsking (reaction P (ClockAnswer h.from h.named h.clock) y).next) (sym h.op)
+          (subst (λ (r : Reaction). PastAsking r.next) (sym (reacts_gets P.inputs P.outputs h.from h.named h.clock h.ask h.knows)) tt)))
 
   not_again : (g h p v w : ℕ) → Getting g p v → Getting h p w → g < h → ⊥
   not_again g h p v w G H l =
@@ -762,7 +734,7 @@ module _ (S : Story) (in_lawful : Lawful S.inputs) (out_lawful : Lawful S.output
       let c = carry P (λ W. (Begun W p) × PastAsking (W.op p))
       (λ W small _ _ k a m y. (
         let z = (grows P small W k a m).begun in (y.0.0, let b = y.0.1 in omega arith),
-        ops_up P small W k PastAsking (past_clock P) (past_write P) (past_read P) a p y.0 y.1,
+        ops_up P small W k PastAsking (past_up P) a p y.0 y.1,
       ))
       (suc g) h l (live_next P g G.known.live) x in
       let e : (world h).op p ≡ asking H.how.ask = subst (λ (q : ℕ). (world h).op q ≡ asking H.how.ask) H.named H.how.op in

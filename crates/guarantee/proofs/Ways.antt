@@ -2,7 +2,6 @@
 -- What holds of each of these holds of every call.
 use Rattle.std.proofs.Common.{◌≡◌, ℕ, zero, suc, ◌+◌, ◌<◌, ◌≤◌, true, false, cond, not, ◌&&◌, ◌||◌, eqb, ltb, leb, ◌⊎◌, List, [], ◌∷◌, length, get_or, sym, refl, ap, ◌∙◌, subst, inl, inr, arith, length-append, length-set}
 use Rattle.std.proofs.lemmas.Bool.{cases_eq, cond_both, and_parts, or_parts, not-false, eqb-true, ltb-false, leb-true, leb-false}
-use Rattle.quorum.specs.declared.member_set.MemberSet.{MemberSet}
 use Rattle.quorum.specs.Sets.{set_of}
 use Rattle.quorum.specs.Systems.{System}
 use Rattle.rules.specs.declared.message.Message.{Message}
@@ -10,20 +9,23 @@ use Rattle.rules.specs.declared.message.Message.TheVariants.{ClockQuestion, Cloc
 use Rattle.numbers.specs.declared.time.Time.{Time}
 use Rattle.numbers.specs.declared.version.Version.{Version}
 use Rattle.rules.specs.Calls.{opened, clocks_fit, opening, as_opened, when_open, has_nine, inputs_stay, outputs_stay, keeps_drift, later_inputs, later_outputs, advanced, advancing}
-use Rattle.rules.specs.Calls.{enter, beginning, beginning_write, beginning_read, operation_at, with_operation, is_known, in_range, quiet, hears_clock_answer, hears_write_answer, hears_read_answer, receives, message_at, delivering}
+use Rattle.rules.specs.Calls.{enter, beginning, beginning_write, beginning_read, operation_at, is_known, in_range, reacted, handed_to, quiet, receives, message_at, delivering}
 use Rattle.rules.specs.Input.{Input, ledger, is_shut_out, invalidations, answers_clock, after_write, answers_write, after_renewal, answers_renewal, acknowledges_all, later_input}
 use Rattle.rules.specs.Lists.{list_of}
 use Rattle.numbers.specs.Numbers.{between, is_version, last_time, longest}
-use Rattle.rules.specs.Operation.{Operation, unused, asking, sending, reading, ended, first_asking, first_reading, clock_questions, read_requests, hears_clock, knows_clock, gets_version, write_requests, hears_named, is_written, hears_pair, is_read}
+use Rattle.rules.specs.Operation.{Operation, asking, reading, ended, first_asking, first_reading, clock_questions, read_requests}
 use Rattle.rules.specs.Output.{Output, good, valid, renewals, answers_read, after_answer, acknowledgement, after_invalidation, answers_invalidation, later_output}
 use Rattle.rules.specs.Ranges.{numbers_fit, state_fits, has_room}
-use Rattle.rules.specs.State.{State, Said, refused, accepted, began, nothing_ended, write_ended, read_ended, Outcome, outcome, refuse, no_input, no_output, input_at, output_at, post, with_input, with_output}
+use Rattle.rules.specs.Reaction.{Reaction, reacts}
+use Rattle.rules.specs.Said.{Said, refused, accepted, began}
+use Rattle.rules.specs.State.{State, Outcome, outcome, refuse, no_input, no_output, input_at, output_at, post, with_input, with_output}
 use Rattle.guarantee.specs.Bounds.{IsVersion, InputBounds, OutputBounds}
 use Rattle.guarantee.specs.Laws.{InputRises, OutputRises}
 use Rattle.guarantee.specs.Story.{Call, to_open, to_advance, to_write, to_read, to_deliver, outcome_of}
 use Rattle.guarantee.proofs.Fits.{within_range, RequestFits, RenewalFits, RenewedFits, fits_request, fits_renewal, fits_renewed, fits_invalidation, fits_ack}
 use Rattle.guarantee.proofs.InputMoves.{length3, until3, until7, keeps10}
 use Rattle.guarantee.proofs.OutputMoves.{ack_length}
+use Rattle.guarantee.proofs.Reacting.{sends_nine, ended_stays, refuses_none}
 use Rattle.guarantee.proofs.ServerSteps.{more_made, write_bounds, renewal_bounds, ack_bounds, write_rises, renewal_rises, ack_rises, answer_bounds, told_bounds, answer_rises, told_rises}
 use Rattle.guarantee.proofs.Words.{set_from, each_length}
 
@@ -77,21 +79,23 @@ pub record OutputStep (s : State) (j : ℕ) (Q : Output) : Type 0 where
   pub rises : OutputRises (output_at s j) Q
   pub bounds : OutputBounds (output_at s j) → OutputBounds Q
 
--- operation p is begun and has not ended
-pub record Runs (s : State) (p : ℕ) : Type 0 where
-  pub low : 1 ≤ p
-  pub running : operation_at s p ≡ ended → ⊥
-
 abbrev pub NotRefused : Said → Type 0
 NotRefused r = (number : ℕ) → r ≡ refused number → ⊥
+
+-- ---- what it does at an operation
+
+-- operation p is begun, and reacts so
+pub record Reacts (s : State) (p : ℕ) (r : Reaction) : Type 0 where
+  pub low : 1 ≤ p
+  pub stays_ended : operation_at s p ≡ ended → r.next ≡ ended
+  pub short : Short s r.sends
+  pub says : NotRefused r.said
 
 -- ---- the ways
 
 pub record Deliveries (s : State) (P : Outcome → Type 0) : Type 0 where
-  pub still : P (quiet s)
   pub logs : (new : List Message) → Short s new → P (quiet (post new s))
-  pub moves : (p : ℕ) (x : Operation) (r : Said) → Runs s p → NotRefused r → P (outcome r (with_operation p x s))
-  pub sends : (p : ℕ) (x : Operation) (new : List Message) → Runs s p → Short s new → P (quiet (post new (with_operation p x s)))
+  pub reacts : (p : ℕ) (r : Reaction) → Reacts s p r → P (reacted p r s)
   pub keeps : (i : ℕ) (J : Input) → InputStep s i J 0 → P (quiet (with_input i J s))
   pub takes : (i : ℕ) (J : Input) (new : List Message) → InputStep s i J (length new) → Short s new → P (quiet (post new (with_input i J s)))
   pub hears : (j : ℕ) (Q : Output) (new : List Message) → OutputStep s j Q → Short s new → P (quiet (post new (with_output j Q s)))
@@ -343,44 +347,14 @@ beginning_ways inputs outputs o x requests s P stop go = when_ways inputs output
 version_range : (v : Version) → is_version v ≡ true → IsVersion v
 version_range v h = within_range 65536 4294967295 v.0 h
 
-module _ (inputs outputs : System) (s : State) (P : Outcome → Type 0) (d : Deliveries s P) where
-  clock_ways : (i p c : ℕ) (x : Operation) → operation_at s p ≡ x → 1 ≤ p → P (hears_clock_answer inputs i p c x s)
-  clock_ways i p c unused e l = d.still
-  clock_ways i p c (asking a) e l = cond_both (knows_clock inputs (hears_clock i c a)) _ _ P
-      (λ _. d.sends p (sending (gets_version (hears_clock i c a))) (write_requests s.frame.counts.n (gets_version (hears_clock i c a))) runs
-      (λ g h. let z = each_length s.frame.counts.n
-      (λ (k : ℕ). WriteRequest a.operation k a.object (gets_version (hears_clock i c a)).version a.value ∷ []) (λ k. omega arith) in omega arith))
-      (λ _. d.moves p (asking (hears_clock i c a)) nothing_ended runs (λ number h. let z : ◌≡◌ {A = ℕ} 0 1 = cc in omega arith))
-    where
-      runs : Runs s p
-      runs = record { low = l; running = λ h. let z : ◌≡◌ {A = ℕ} 0 1 = cc in omega arith }
-  clock_ways i p c (sending w) e l = d.still
-  clock_ways i p c (reading r) e l = d.still
-  clock_ways i p c ended e l = d.still
-
-  write_ways : (i p : ℕ) (t : MemberSet) (x : Operation) → operation_at s p ≡ x → 1 ≤ p → P (hears_write_answer inputs outputs i p t x s)
-  write_ways i p t unused e l = d.still
-  write_ways i p t (asking a) e l = d.still
-  write_ways i p t (sending w) e l = cond_both (is_written inputs outputs (hears_named i t w)) _ _ P
-      (λ _. d.moves p ended (write_ended p w.version.0 w.value) runs (λ number h. let z : ◌≡◌ {A = ℕ} 0 1 = cc in omega arith))
-      (λ _. d.moves p (sending (hears_named i t w)) nothing_ended runs (λ number h. let z : ◌≡◌ {A = ℕ} 0 1 = cc in omega arith))
-    where
-      runs : Runs s p
-      runs = record { low = l; running = λ h. let z : ◌≡◌ {A = ℕ} 0 1 = cc in omega arith }
-  write_ways i p t (reading r) e l = d.still
-  write_ways i p t ended e l = d.still
-
-  read_ways : (j p : ℕ) (v : Version) (y : ℕ) (x : Operation) → operation_at s p ≡ x → 1 ≤ p → P (hears_read_answer outputs j p v y x s)
-  read_ways j p v y unused e l = d.still
-  read_ways j p v y (asking a) e l = d.still
-  read_ways j p v y (sending w) e l = d.still
-  read_ways j p v y (reading r) e l = cond_both (is_read outputs (hears_pair j v y r)) _ _ P
-      (λ _. d.moves p ended (read_ended p (hears_pair j v y r).version.0 (hears_pair j v y r).value) runs (λ number h. let z : ◌≡◌ {A = ℕ} 0 1 = cc in omega arith))
-      (λ _. d.moves p (reading (hears_pair j v y r)) nothing_ended runs (λ number h. let z : ◌≡◌ {A = ℕ} 0 1 = cc in omega arith))
-    where
-      runs : Runs s p
-      runs = record { low = l; running = λ h. let z : ◌≡◌ {A = ℕ} 0 1 = cc in omega arith }
-  read_ways j p v y ended e l = d.still
+module _ (inputs outputs : System) (s : State) (P : Outcome → Type 0) (n_is : inputs.count ≡ s.frame.counts.n) (d : Deliveries s P) where
+  reaction_ways : (m : Message) (p : ℕ) → 1 ≤ p → P (handed_to inputs outputs m p s)
+  reaction_ways m p low = d.reacts p (reacts inputs outputs m (operation_at s p)) (record {
+    low = low;
+    stays_ended = λ e. ap (λ (x : Operation). (reacts inputs outputs m x).next) e ∙ ended_stays inputs outputs m;
+    short = λ g h. sends_nine inputs outputs m (operation_at s p) (omega arith);
+    says = λ number. refuses_none inputs outputs number m (operation_at s p);
+  })
 
   known_low : (p : ℕ) → is_known s p ≡ true → 1 ≤ p
   known_low p h = (within_range 1 s.begun p (and_parts (between 1 s.begun p) (state_fits s.frame.counts p (operation_at s p)) h).0).0
@@ -396,7 +370,7 @@ module _ (inputs outputs : System) (s : State) (P : Outcome → Type 0) (d : Del
   receives_ways (ClockQuestion p i) h = d.logs (answers_clock i p (input_at s i)) (λ _ _. omega arith)
   receives_ways (ClockAnswer i p c) h =
       let a = and_parts (numbers_fit s.frame.counts (ClockAnswer i p c)) (is_known s p && has_room (operation_at s p)) h in
-      clock_ways i p c (operation_at s p) refl (known_low p (and_parts (is_known s p) (has_room (operation_at s p)) a.1).0)
+      reaction_ways (ClockAnswer i p c) p (known_low p (and_parts (is_known s p) (has_room (operation_at s p)) a.1).0)
   receives_ways (WriteRequest p i o v x) h = d.takes i J new
       (record {
         inside = f.receiver;
@@ -428,11 +402,11 @@ module _ (inputs outputs : System) (s : State) (P : Outcome → Type 0) (d : Del
       some = let z = length-append (invalidations i s.frame.counts.m o J) (WriteAnswer i p (record { 0 = set_of s.frame.counts.m (is_shut_out J o) }) ∷ []) in omega arith
   receives_ways (WriteAnswer i p t) h =
       let a = and_parts (numbers_fit s.frame.counts (WriteAnswer i p t)) (is_known s p) h in
-      write_ways i p t (operation_at s p) refl (known_low p a.1)
+      reaction_ways (WriteAnswer i p t) p (known_low p a.1)
   receives_ways (ReadRequest p j o) h = d.logs (answers_read inputs j p s.frame.counts.n o (output_at s j)) (read_short j p o (output_at s j))
   receives_ways (ReadAnswer j p v x) h =
       let a = and_parts (numbers_fit s.frame.counts (ReadAnswer j p v x)) (is_known s p) h in
-      read_ways j p v x (operation_at s p) refl (known_low p a.1)
+      reaction_ways (ReadAnswer j p v x) p (known_low p a.1)
   receives_ways (RenewalRequest j i a o stamp) h = d.takes i (after_renewal s.frame.lease j a o (input_at s i))
       (answers_renewal i s.frame.lease j a o stamp (input_at s i) ∷ [])
       (record {
@@ -496,5 +470,5 @@ call_ways inputs outputs s P w (to_deliver number) = when_ways inputs outputs s 
     cond_both (eqb number 0 || ltb s.made number) (refuse 31 s) _ P (λ _. w.refuses 31) (λ a.
     cond_both (not (has_nine s)) (refuse 32 s) _ P (λ _. w.refuses 32) (λ b.
     cond_both (not (in_range (message_at s number) s)) (refuse 33 s) _ P (λ _. w.refuses 33) (λ c.
-    receives_ways inputs outputs s P (w.delivers found (leb-true (s.made + 9) (length s.log) (not-false (has_nine s) b)))
+    receives_ways inputs outputs s P found.n (w.delivers found (leb-true (s.made + 9) (length s.log) (not-false (has_nine s) b)))
     (message_at s number) (not-false (in_range (message_at s number) s) c)))))

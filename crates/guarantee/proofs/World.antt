@@ -4,18 +4,17 @@ use Rattle.std.proofs.Common.{◌≡◌, ℕ, zero, suc, ◌+◌, ◌-◌, ◌<�
 use mathlib.Core.Path.{fun_ext}
 use lib.Seq.{sets-eq, take-append-le}
 use Rattle.std.proofs.lemmas.Bool.{cases_eq, eq-eqb, ne_eqb}
-use Rattle.quorum.specs.declared.member_set.MemberSet.{MemberSet}
 use Rattle.quorum.specs.Systems.{System}
 use Rattle.rules.specs.declared.message.Message.{Message}
 use Rattle.rules.specs.declared.message.Message.TheVariants.{ClockQuestion, ClockAnswer, WriteRequest, WriteAnswer, ReadRequest, ReadAnswer, RenewalRequest, RenewalAnswer, Invalidation, InvalidationAnswer}
-use Rattle.numbers.specs.declared.version.Version.{Version}
 use Rattle.rules.specs.Calls.{operation_at, with_operation, enter}
 use Rattle.rules.specs.Input.{Input, answers_clock, after_write, answers_write, after_renewal, answers_renewal, acknowledges_all, later_input}
 use Rattle.rules.specs.Lists.{list_of}
-use Rattle.rules.specs.Operation.{Operation, unused, asking, sending, reading, ended, first_asking, first_reading, clock_questions, read_requests, hears_clock, knows_clock, gets_version, write_requests, hears_named, is_written, hears_pair, is_read}
+use Rattle.rules.specs.Operation.{Operation, unused, asking, reading, first_asking, first_reading, clock_questions, read_requests}
 use Rattle.rules.specs.Output.{Output, answers_read, after_answer, acknowledgement, after_invalidation, answers_invalidation, later_output}
 use Rattle.rules.specs.Ranges.{Counts}
-use Rattle.rules.specs.State.{State, Said, nothing_ended, write_ended, read_ended, input_at, output_at, post, with_input, with_output}
+use Rattle.rules.specs.Reaction.{Reaction, reacts}
+use Rattle.rules.specs.State.{State, input_at, output_at, post, with_input, with_output}
 use Rattle.guarantee.proofs.Words.{at, at_cases, at_miss, set_at}
 
 -- what opening fixes, with the two systems
@@ -64,53 +63,20 @@ begins x new W = record {
   sent = W.sent ++ new;
 }
 
--- ---- what an operation makes of an answer
+-- ---- what an operation makes of a message
 
-unfoldable pub clock_state : Params → ℕ → ℕ → Operation → Operation
-clock_state P i c unused = unused
-clock_state P i c (asking a) =
-    cond (knows_clock P.inputs (hears_clock i c a)) (sending (gets_version (hears_clock i c a))) (asking (hears_clock i c a))
-clock_state P i c (sending w) = sending w
-clock_state P i c (reading r) = reading r
-clock_state P i c ended = ended
+abbrev pub reaction : Params → Message → Operation → Reaction
+reaction P m x = reacts P.inputs P.outputs m x
 
-unfoldable pub clock_news : Params → ℕ → ℕ → Operation → List Message
-clock_news P i c unused = []
-clock_news P i c (asking a) =
-    cond (knows_clock P.inputs (hears_clock i c a)) (write_requests P.counts.n (gets_version (hears_clock i c a))) []
-clock_news P i c (sending w) = []
-clock_news P i c (reading r) = []
-clock_news P i c ended = []
+-- the operation that an answer is for
+abbrev pub answered : Message → ℕ
+answered (ClockAnswer i p c) = p
+answered (WriteAnswer i p t) = p
+answered (ReadAnswer j p v x) = p
+answered m = 0
 
-unfoldable pub write_state : Params → ℕ → MemberSet → Operation → Operation
-write_state P i t unused = unused
-write_state P i t (asking a) = asking a
-write_state P i t (sending w) = cond (is_written P.inputs P.outputs (hears_named i t w)) ended (sending (hears_named i t w))
-write_state P i t (reading r) = reading r
-write_state P i t ended = ended
-
-unfoldable pub write_says : Params → ℕ → ℕ → MemberSet → Operation → Said
-write_says P i p t unused = nothing_ended
-write_says P i p t (asking a) = nothing_ended
-write_says P i p t (sending w) =
-    cond (is_written P.inputs P.outputs (hears_named i t w)) (write_ended p w.version.0 w.value) nothing_ended
-write_says P i p t (reading r) = nothing_ended
-write_says P i p t ended = nothing_ended
-
-unfoldable pub read_state : Params → ℕ → Version → ℕ → Operation → Operation
-read_state P j v x unused = unused
-read_state P j v x (asking a) = asking a
-read_state P j v x (sending w) = sending w
-read_state P j v x (reading r) = cond (is_read P.outputs (hears_pair j v x r)) ended (reading (hears_pair j v x r))
-read_state P j v x ended = ended
-
-unfoldable pub read_says : Params → ℕ → ℕ → Version → ℕ → Operation → Said
-read_says P j p v x unused = nothing_ended
-read_says P j p v x (asking a) = nothing_ended
-read_says P j p v x (sending w) = nothing_ended
-read_says P j p v x (reading r) = cond (is_read P.outputs (hears_pair j v x r))
-    (read_ended p (hears_pair j v x r).version.0 (hears_pair j v x r).value) nothing_ended
-read_says P j p v x ended = nothing_ended
+abbrev pub at_reaction : ℕ → Reaction → World → World
+at_reaction p r W = at_op p r.next r.sends W
 
 -- ---- what an accepted call does
 
@@ -136,13 +102,13 @@ run P (writes o x) W =
 run P (reads o) W =
     begins (reading (first_reading (W.begun + 1) o)) (read_requests (W.begun + 1) o P.counts.m) W
 run P (hears (ClockQuestion p i)) W = at_input i (W.inp i) (answers_clock i p (W.inp i)) W
-run P (hears (ClockAnswer i p c)) W = at_op p (clock_state P i c (W.op p)) (clock_news P i c (W.op p)) W
+run P (hears (ClockAnswer i p c)) W = at_reaction p (reaction P (ClockAnswer i p c) (W.op p)) W
 run P (hears (WriteRequest p i o v x)) W =
     at_input i (after_write P.counts.m o v x (W.inp i))
     (answers_write i p P.counts.m o (after_write P.counts.m o v x (W.inp i))) W
-run P (hears (WriteAnswer i p t)) W = at_op p (write_state P i t (W.op p)) [] W
+run P (hears (WriteAnswer i p t)) W = at_reaction p (reaction P (WriteAnswer i p t) (W.op p)) W
 run P (hears (ReadRequest p j o)) W = at_output j (W.out j) (answers_read P.inputs j p P.counts.n o (W.out j)) W
-run P (hears (ReadAnswer j p v x)) W = at_op p (read_state P j v x (W.op p)) [] W
+run P (hears (ReadAnswer j p v x)) W = at_reaction p (reaction P (ReadAnswer j p v x) (W.op p)) W
 run P (hears (RenewalRequest j i a o stamp)) W =
     at_input i (after_renewal P.lease j a o (W.inp i)) (answers_renewal i P.lease j a o stamp (W.inp i) ∷ []) W
 run P (hears (RenewalAnswer i j a o v x e stamp length l)) W =

@@ -15,7 +15,8 @@ use Rattle.rules.specs.Input.{Input, chain}
 use Rattle.rules.specs.Lists.{each, pairs}
 use Rattle.numbers.specs.Numbers.{none, version_of}
 use Rattle.rules.specs.Operation.{unused}
-use Rattle.rules.specs.State.{State, accepted, nothing_ended, input_at}
+use Rattle.rules.specs.Said.{accepted, nothing_ended}
+use Rattle.rules.specs.State.{State, input_at}
 use Rattle.guarantee.specs.Endings.{written_before, WriteCompletes, ReadCompletes}
 use Rattle.guarantee.specs.Story.{Story, Call, to_open, to_advance, to_write, to_read, to_deliver, before, said_at, BeginsWrite, BeginsRead, Gets, EndsWrite, EndsRead}
 

@@ -1,37 +1,31 @@
 -- When operations end: with the delivery that completes their quorums, no earlier, no later, and once. What an operation
 -- has gathered is read off the calls of a story, what they say, and the log; never off the table.
-use Rattle.std.specs.Prelude.{◌≡◌, ℕ, zero, suc, ◌<◌, Bool, true, false, cond, ◌↔◌, List, length, replicate, Some, None, Option, ◌==◌, bit_or, slice_set}
+use Rattle.std.specs.Prelude.{◌≡◌, ℕ, zero, suc, ◌<◌, Bool, true, false, if◌then◌else◌, ◌↔◌, List, length, replicate, Some, None, Option, ◌==◌, bit_or, slice_set}
 use Rattle.quorum.specs.declared.member_set.MemberSet.{MemberSet}
 use Rattle.quorum.specs.Sets.{joined, set_of}
 use Rattle.quorum.specs.Systems.{Lawful}
 use Rattle.rules.specs.declared.message.Message.{Message}
-use Rattle.rules.specs.declared.message.Message.TheVariants.{ClockQuestion, ClockAnswer, WriteRequest, WriteAnswer, ReadRequest, ReadAnswer, RenewalRequest, RenewalAnswer, Invalidation, InvalidationAnswer}
+use Rattle.rules.specs.declared.message.Message.TheVariants.{WriteAnswer, ReadAnswer}
 use Rattle.rules.specs.Calls.{message_at}
 use Rattle.rules.specs.Operation.{named_by, counts}
-use Rattle.rules.specs.State.{State, Said, refused, accepted, began, nothing_ended, write_ended, read_ended}
-use Rattle.guarantee.specs.Story.{Story, Call, to_open, to_advance, to_write, to_read, to_deliver, call_at, before, said_at, EndsWrite, EndsRead}
+use Rattle.rules.specs.Said.{Said, refused}
+use Rattle.rules.specs.State.{State}
+use Rattle.guarantee.specs.Story.{Story, Call, to_deliver, call_at, before, said_at, EndsWrite, EndsRead}
 
 -- ---- what is delivered
 
 abbrev pub is_refusal : Said → Bool
 is_refusal (refused number) = true
-is_refusal accepted = false
-is_refusal (began p) = false
-is_refusal nothing_ended = false
-is_refusal (write_ended p v x) = false
-is_refusal (read_ended p v x) = false
+is_refusal said = false
 
 -- the message that a call hands over
 abbrev pub message_of : Call → State → Option Message
-message_of (to_open k lease drift clocks) s = None
-message_of (to_advance increments) s = None
-message_of (to_write o x) s = None
-message_of (to_read o) s = None
 message_of (to_deliver number) s = Some (message_at s number)
+message_of call s = None
 
 -- the message that call number t delivers: there is one if the call is a delivery and is not refused
 abbrev pub delivered_at : Story → ℕ → Option Message
-delivered_at S t = cond (is_refusal (said_at S t)) None (message_of (call_at S t) (before S t))
+delivered_at S t = if is_refusal (said_at S t) then None else message_of (call_at S t) (before S t)
 
 -- what was gathered, with what the message adds, if there is one
 abbrev pub also_hears : {G : Type 0} → (Message → G → G) → Option Message → G → G
@@ -48,16 +42,9 @@ gathered_before first hears S (suc t) = also_hears hears (delivered_at S t) (gat
 
 -- an input server names output servers to the write p by a write answer; what it names later joins what it named before
 abbrev pub hears_names : ℕ → Message → List MemberSet → List MemberSet
-hears_names p (ClockQuestion q i) named = named
-hears_names p (ClockAnswer i q c) named = named
-hears_names p (WriteRequest q i o v x) named = named
-hears_names p (WriteAnswer i q s) named = cond (q == p) (slice_set named i (record { 0 = bit_or (named_by named i) s.0 })) named
-hears_names p (ReadRequest q j o) named = named
-hears_names p (ReadAnswer j q v x) named = named
-hears_names p (RenewalRequest j i a o stamp) named = named
-hears_names p (RenewalAnswer i j a o v x e stamp len l) named = named
-hears_names p (Invalidation i j o v) named = named
-hears_names p (InvalidationAnswer j i l) named = named
+hears_names p (WriteAnswer i q s) named =
+    if q == p then slice_set named i (record { 0 = bit_or (named_by named i) s.0 }) else named
+hears_names p m named = named
 
 -- for each of eight input servers, the output servers that it named to the write p by what was delivered before call number t
 abbrev pub named_before : Story → ℕ → ℕ → List MemberSet
@@ -79,16 +66,8 @@ pub record WriteCompletes (S : Story) (t p : ℕ) : Type 0 where
 
 -- an output server answers the read p by a read answer
 abbrev pub hears_answer : ℕ → Message → ℕ → ℕ
-hears_answer p (ClockQuestion q i) answered = answered
-hears_answer p (ClockAnswer i q c) answered = answered
-hears_answer p (WriteRequest q i o v x) answered = answered
-hears_answer p (WriteAnswer i q s) answered = answered
-hears_answer p (ReadRequest q j o) answered = answered
-hears_answer p (ReadAnswer j q v x) answered = cond (q == p) (joined answered j) answered
-hears_answer p (RenewalRequest j i a o stamp) answered = answered
-hears_answer p (RenewalAnswer i j a o v x e stamp len l) answered = answered
-hears_answer p (Invalidation i j o v) answered = answered
-hears_answer p (InvalidationAnswer j i l) answered = answered
+hears_answer p (ReadAnswer j q v x) answered = if q == p then joined answered j else answered
+hears_answer p m answered = answered
 
 -- the output servers that answered the read p by what was delivered before call number t
 abbrev pub answered_before : Story → ℕ → ℕ → ℕ

@@ -10,7 +10,8 @@ use Rattle.rules.specs.Calls.{operation_at}
 use Rattle.rules.specs.Input.{Input, held, ledger, chain, last_ack, is_shut_out, queues_for, answers_write, acknowledges_all}
 use Rattle.rules.specs.Operation.{ended}
 use Rattle.rules.specs.Output.{Output, newest_of, link, copy_of}
-use Rattle.rules.specs.State.{State, refused, input_at, output_at}
+use Rattle.rules.specs.Said.{refused}
+use Rattle.rules.specs.State.{State, input_at, output_at}
 use Rattle.guarantee.specs.Bounds.{Bounded}
 use Rattle.guarantee.specs.Story.{Call, outcome_of, Has}
 

@@ -7,7 +7,8 @@ use Rattle.rules.specs.declared.message.Message.TheVariants.{WriteRequest}
 use Rattle.numbers.specs.declared.time.Time.{Time}
 use Rattle.numbers.specs.declared.version.Version.{Version}
 use Rattle.rules.specs.Calls.{opening, advancing, beginning_write, beginning_read, delivering}
-use Rattle.rules.specs.State.{State, Outcome, Said, began, write_ended, read_ended}
+use Rattle.rules.specs.Said.{Said, began, write_ended, read_ended}
+use Rattle.rules.specs.State.{State, Outcome}
 
 -- a call with all that is handed in beside field, log, table and systems
 pub data Call : Type 0 where

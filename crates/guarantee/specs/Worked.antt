@@ -12,7 +12,8 @@ use Rattle.rules.specs.Lists.{each, pairs}
 use Rattle.numbers.specs.Numbers.{none, version_of, live, lease_end}
 use Rattle.rules.specs.Operation.{Sending, first_asking, hears_clock, gets_version, hears_named, counts, is_written}
 use Rattle.rules.specs.Output.{Output, link, leased, after_answer, first_output}
-use Rattle.rules.specs.State.{Said, accepted, refused, Outcome}
+use Rattle.rules.specs.Said.{Said, accepted, refused}
+use Rattle.rules.specs.State.{Outcome}
 use Rattle.guarantee.specs.Alive.{unopened, zeros, pair}
 
 -- an input server names a set of output servers as shut out

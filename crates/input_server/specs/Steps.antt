@@ -6,7 +6,7 @@ use Rattle.numbers.specs.Numbers.{last_time}
 use Rattle.rules.specs.declared.message.Message.{Message}
 use Rattle.rules.specs.declared.parts.Parts.{Parts}
 use Rattle.rules.specs.Input.{Input, later_input, answers_clock, after_write, answers_write, after_renewal, answers_renewal}
-use Rattle.rules.specs.State.{Said, accepted, refused}
+use Rattle.rules.specs.Said.{Said, accepted, refused}
 use Rattle.rules.specs.Steps.{Step, steps, stays, with_room}
 use Rattle.input_server.specs.Epochs.{have_epochs}
 

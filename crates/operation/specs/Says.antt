@@ -2,6 +2,7 @@
 use Rattle.std.specs.Prelude.{◌≡◌, ℕ, Ok, Err, Result}
 use Rattle.quorum.specs.declared.refusal.Refusal.{Refusal}
 use Rattle.quorum.specs.Refusals.{number_of}
+use Rattle.quorum.specs.Systems.{System}
 use Rattle.operation.specs.declared.asking.AskingWrite.{AskingWrite}
 use Rattle.operation.specs.declared.sending.SendingWrite.{SendingWrite}
 use Rattle.operation.specs.declared.read.Read.{Read}
@@ -9,8 +10,15 @@ use Rattle.operation.specs.declared.steps.AskingStep.{AskingStep}
 use Rattle.operation.specs.declared.steps.AskingStep.TheVariants as A
 use Rattle.operation.specs.declared.steps.Step.{Step}
 use Rattle.operation.specs.declared.steps.Step.TheVariants.{On, Ended}
-use Rattle.operation.specs.Alone.{AskingSaid, asks_on, now_sends, asking_refused, SendingSaid, sends_on, write_ends, sending_refused, ReadingSaid, reads_on, read_ends, reading_refused}
-use Rattle.operation.specs.States.{asking_of, sending_of, reading_of}
+use Rattle.operation.specs.declared.table.Operation.{Operation as Place}
+use Rattle.operation.specs.declared.table.Reaction.{Reaction as PlaceStep}
+use Rattle.operation.specs.declared.table.Reaction.TheVariants as R
+use Rattle.operation.specs.Alone.{Handed, handed_back, reacted}
+use Rattle.operation.specs.States.{asking_of, sending_of, reading_of, operation_of}
+use Rattle.rules.specs.Answers.{end_of}
+use Rattle.rules.specs.Operation.{Operation, asking, sending, reading}
+use Rattle.rules.specs.Reaction.{Reaction, goes_on, sends_version, ends_with}
+use Rattle.rules.specs.Said.{write_ended, read_ended}
 
 -- the very state that was given, alone where the refusal's number is 0, and beside the refusal otherwise
 abbrev pub Accepted : {State : Type 0} → ℕ → State → Result State (Refusal × State) → Type 0
@@ -22,28 +30,40 @@ abbrev pub HandsBack : {State Step : Type 0} → State → Result Step (Refusal 
 HandsBack w (Ok s) = Unit {0}
 HandsBack w (Err e) = e.1 ≡ w
 
--- what a step says, or a refusal with the state that it hands back
-abbrev pub says : {State Step Said : Type 0} → (Step → Said) → (ℕ → State → Said) → Result Step (Refusal × State) → Said
-says step refused (Ok s) = step s
-says step refused (Err e) = refused (number_of e.0) e.1
+-- ---- what a step is as a reaction
 
-abbrev pub asking_step : AskingStep → AskingSaid
-asking_step (A.Asking w) = asks_on (asking_of w)
-asking_step (A.Sending w) = now_sends (sending_of w)
+abbrev pub asking_step : System → AskingStep → Reaction
+asking_step inputs (A.Asking w) = goes_on (asking (asking_of w))
+asking_step inputs (A.Sending w) = sends_version inputs (sending_of w)
 
-abbrev pub asking_says : Result AskingStep (Refusal × AskingWrite) → AskingSaid
-asking_says = says asking_step (λ n w. asking_refused n (asking_of w))
+abbrev pub sending_step : Step SendingWrite → Reaction
+sending_step (On w) = goes_on (sending (sending_of w))
+sending_step (Ended e) = ends_with (write_ended e.operation e.version.0 e.value)
 
-abbrev pub sending_step : Step SendingWrite → SendingSaid
-sending_step (On w) = sends_on (sending_of w)
-sending_step (Ended e) = write_ends e.operation e.version.0 e.value
+abbrev pub read_step : Step Read → Reaction
+read_step (On r) = goes_on (reading (reading_of r))
+read_step (Ended e) = ends_with (read_ended e.operation e.version.0 e.value)
 
-abbrev pub sending_says : Result (Step SendingWrite) (Refusal × SendingWrite) → SendingSaid
-sending_says = says sending_step (λ n w. sending_refused n (sending_of w))
+abbrev pub place_step : System → PlaceStep → Reaction
+place_step inputs (R.On x) = goes_on (operation_of x)
+place_step inputs (R.Sends w) = sends_version inputs (sending_of w)
+place_step inputs (R.Ends d) = ends_with (end_of d)
 
-abbrev pub read_step : Step Read → ReadingSaid
-read_step (On r) = reads_on (reading_of r)
-read_step (Ended e) = read_ends e.operation e.version.0 e.value
+-- ---- a step, or a refusal with the state that it hands back
 
-abbrev pub read_says : Result (Step Read) (Refusal × Read) → ReadingSaid
-read_says = says read_step (λ n r. reading_refused n (reading_of r))
+abbrev pub says : {State Step : Type 0}
+    → (State → Operation) → (Step → Reaction) → Result Step (Refusal × State) → Handed
+says state step (Ok s) = reacted (step s)
+says state step (Err e) = handed_back (number_of e.0) (state e.1)
+
+abbrev pub asking_says : System → Result AskingStep (Refusal × AskingWrite) → Handed
+asking_says inputs r = says (λ w. asking (asking_of w)) (asking_step inputs) r
+
+abbrev pub sending_says : Result (Step SendingWrite) (Refusal × SendingWrite) → Handed
+sending_says r = says (λ w. sending (sending_of w)) sending_step r
+
+abbrev pub read_says : Result (Step Read) (Refusal × Read) → Handed
+read_says r = says (λ x. reading (reading_of x)) read_step r
+
+abbrev pub place_says : System → Result PlaceStep (Refusal × Place) → Handed
+place_says inputs r = says operation_of (place_step inputs) r

@@ -71,7 +71,7 @@ pub(crate) trait State: Sized {
         message: &Message,
         systems: &Systems<I, O>,
     ) -> Result<Self, (Refusal, Self)>
-        ensures { Accepted (refusal_alone (I.QuorumSystem.meaning systems.now.inputs) (O.QuorumSystem.meaning systems.now.outputs) (own_number (meaning self)) (meaning self) message.now) self result }
+        ensures { Accepted (refusal_alone (I.QuorumSystem.meaning systems.now.inputs) (O.QuorumSystem.meaning systems.now.outputs) (meaning self) message.now) self result }
     {
         if too_many(systems) {
             return Err((Refusal::TooManyMembers, self));

@@ -1,7 +1,8 @@
 // What an asking write does with an answer.
 ghost use Rattle.std.specs.Prelude.{◌≡◌, ◌<◌};
 ghost use Rattle.rules.specs.Operation.{asking, first_asking, hears_clock, gets_version};
-ghost use Rattle.operation.specs.Alone.{asks_next, asking_alone};
+ghost use Rattle.rules.specs.Reaction.{asks_next};
+ghost use Rattle.operation.specs.Alone.{alone};
 ghost use Rattle.operation.specs.Says.{HandsBack, asking_step, asking_says};
 ghost use Rattle.operation.specs.States.{asking_of, sending_of};
 
@@ -35,7 +36,7 @@ impl AskingWrite {
         message: &Message,
         systems: &Systems<I, O>,
     ) -> Result<AskingStep, (Refusal, AskingWrite)>
-        ensures does { asking_alone (I.QuorumSystem.meaning systems.now.inputs) (O.QuorumSystem.meaning systems.now.outputs) message.now (asking_of self) ≡ asking_says result }
+        ensures does { alone (I.QuorumSystem.meaning systems.now.inputs) (O.QuorumSystem.meaning systems.now.outputs) message.now (asking (asking_of self)) ≡ asking_says (I.QuorumSystem.meaning systems.now.inputs) result }
         ensures same { HandsBack self result }
     {
         let write = self.accept(message, systems)?;
@@ -50,7 +51,7 @@ impl AskingWrite {
     // The clock of one input server.
     fn hear<I: QuorumSystem>(self, input: u8, clock: u16, inputs: &I) -> AskingStep
         requires { (self.clock < 65535) × (clock < 65535) }
-        ensures { asking_step result ≡ asks_next (I.meaning inputs.now) (hears_clock input clock (asking_of self)) }
+        ensures { asking_step (I.meaning inputs.now) result ≡ asks_next (I.meaning inputs.now) (hears_clock input clock (asking_of self)) }
     {
         let write = AskingWrite {
             senders: self.senders.with(input),

@@ -2,6 +2,7 @@
 #![tactic(auto)]
 
 mod alone;
+mod answers;
 mod asking;
 mod asks;
 mod places;
@@ -19,4 +20,4 @@ pub use ranges::Counts;
 pub use read::Read;
 pub use sending::SendingWrite;
 pub use steps::{AskingStep, End, Step};
-pub use table::Operation;
+pub use table::{Operation, Reaction};

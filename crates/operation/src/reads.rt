@@ -1,7 +1,8 @@
 // What a read does with an answer.
 ghost use Rattle.std.specs.Prelude.{◌≡◌};
 ghost use Rattle.rules.specs.Operation.{reading, first_reading, hears_pair};
-ghost use Rattle.operation.specs.Alone.{reads_next, reading_alone};
+ghost use Rattle.rules.specs.Reaction.{reads_next};
+ghost use Rattle.operation.specs.Alone.{alone};
 ghost use Rattle.operation.specs.Says.{HandsBack, read_step, read_says};
 ghost use Rattle.operation.specs.States.{reading_of};
 
@@ -35,35 +36,36 @@ impl Read {
         message: &Message,
         systems: &Systems<I, O>,
     ) -> Result<Step<Read>, (Refusal, Read)>
-        ensures does { reading_alone (I.QuorumSystem.meaning systems.now.inputs) (O.QuorumSystem.meaning systems.now.outputs) message.now (reading_of self) ≡ read_says result }
+        ensures does { alone (I.QuorumSystem.meaning systems.now.inputs) (O.QuorumSystem.meaning systems.now.outputs) message.now (reading (reading_of self)) ≡ read_says result }
         ensures same { HandsBack self result }
     {
         let read = self.accept(message, systems)?;
         match message {
             Message::ReadAnswer {
                 output,
+                operation,
                 version,
                 value,
-                ..
-            } => Ok(read.hear(*output, *version, *value, &systems.outputs)),
+            } => Ok(read.hear(*output, *operation, *version, *value, &systems.outputs)),
             _ => Ok(Step::On(read)),
         }
     }
 
-    // The pair of one output server.
+    // The pair that one output server gives the operation.
     fn hear<O: QuorumSystem>(
         self,
         output: u8,
+        operation: u16,
         version: Version,
         value: u64,
         outputs: &O,
     ) -> Step<Read>
-        ensures { read_step result ≡ reads_next (O.meaning outputs.now) (hears_pair output version value (reading_of self)) }
+        ensures { read_step result ≡ reads_next (O.meaning outputs.now) operation (hears_pair output version value (reading_of self)) }
     {
         let read = self.with_pair(output, version, value);
         if outputs.is_read_set(read.senders) {
             Step::Ended(End {
-                operation: read.operation,
+                operation,
                 version: read.version,
                 value: read.value,
             })

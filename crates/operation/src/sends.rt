@@ -3,7 +3,8 @@ ghost use Rattle.std.specs.Prelude.{◌≡◌, ◌^◌, ◌<◌, if◌then◌els
 ghost use Rattle.quorum.specs.Sets.{has};
 ghost use Rattle.rules.specs.Operation.{sending, hears_named, named_by, counts, is_written};
 ghost use Rattle.rules.specs.Ranges.{named_fit};
-ghost use Rattle.operation.specs.Alone.{sends_next, sending_alone};
+ghost use Rattle.rules.specs.Reaction.{sends_next};
+ghost use Rattle.operation.specs.Alone.{alone};
 ghost use Rattle.operation.specs.Counts.{counts_of};
 ghost use Rattle.operation.specs.Gathered.{gathered};
 ghost use Rattle.operation.specs.Says.{HandsBack, sending_step, sending_says};
@@ -26,34 +27,36 @@ impl SendingWrite {
         message: &Message,
         systems: &Systems<I, O>,
     ) -> Result<Step<SendingWrite>, (Refusal, SendingWrite)>
-        ensures does { sending_alone (I.QuorumSystem.meaning systems.now.inputs) (O.QuorumSystem.meaning systems.now.outputs) message.now (sending_of self) ≡ sending_says result }
+        ensures does { alone (I.QuorumSystem.meaning systems.now.inputs) (O.QuorumSystem.meaning systems.now.outputs) message.now (sending (sending_of self)) ≡ sending_says result }
         ensures same { HandsBack self result }
     {
         let write = self.accept(message, systems)?;
         match message {
             Message::WriteAnswer {
                 input,
+                operation,
                 shut_out,
-                ..
-            } => Ok(write.hear(*input, *shut_out, systems)),
+            } => Ok(write.hear(*input, *operation, *shut_out, systems)),
             _ => Ok(Step::On(write)),
         }
     }
 
-    // The output servers that one input server named. Its number is plain, as the message has it.
+    // The output servers that one input server named to the operation. The numbers are plain, as the message has
+    // them.
     fn hear<I: QuorumSystem, O: QuorumSystem>(
         self,
         input: u8,
+        operation: u16,
         set: MemberSet,
         systems: &Systems<I, O>,
     ) -> Step<SendingWrite>
         requires { input < 8 }
-        ensures { sending_step result ≡ sends_next (I.QuorumSystem.meaning systems.now.inputs) (O.QuorumSystem.meaning systems.now.outputs) (hears_named input set (sending_of self)) }
+        ensures { sending_step result ≡ sends_next (I.QuorumSystem.meaning systems.now.inputs) (O.QuorumSystem.meaning systems.now.outputs) operation (hears_named input set (sending_of self)) }
     {
         let write = self.with_named(input, set);
         if write.is_written(systems) {
             Step::Ended(End {
-                operation: write.operation,
+                operation,
                 version: write.version,
                 value: write.value,
             })

@@ -2,8 +2,7 @@
 // Tests that read alike differ in their values, which is what each is for.
 use crate::handing::{Heard, clock, last_of, named, sending, write};
 use numbers::Version;
-use operation::End;
-use rules::Message;
+use rules::{Delivery, Message};
 use std::process::Abort;
 use std::test::Fail;
 
@@ -38,7 +37,7 @@ fn sent(rt: &impl Abort, messages: &[Message], heard: Heard) -> Result<(), Fail>
     Ok(())
 }
 
-const ENDED: Heard = Heard::Ended(End {
+const ENDED: Heard = Heard::Ended(Delivery::WriteEnded {
     operation: 7,
     version: Version(655_367),
     value: 500,

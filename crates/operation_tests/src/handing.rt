@@ -1,9 +1,9 @@
 // Hands a state one message after another. Nothing here says what it returns: the tests look at what
 // the code does, and not at what it promises.
 use numbers::Version;
-use operation::{AskingStep, AskingWrite, End, Operation, Step};
+use operation::{AskingWrite, Operation, Reaction};
 use quorum::{Majority, MemberSet, QuorumSystem, ReadOneWriteAll, Refusal, Systems};
-use rules::Message;
+use rules::{Delivery, Message};
 
 // What came of a message.
 #[derive(Clone, Copy, Debug, PartialEq, Eq)]
@@ -12,37 +12,8 @@ pub(crate) enum Heard {
     Nothing,
     // the write has this version now
     Sends(Version),
-    Ended(End),
+    Ended(Delivery),
     Refused(u8),
-}
-
-fn ask<I: QuorumSystem, O: QuorumSystem>(
-    write: AskingWrite,
-    message: &Message,
-    systems: &Systems<I, O>,
-) -> (Operation, Heard) {
-    match write.answer(message, systems) {
-        Ok(AskingStep::Asking(write)) => (Operation::Asking(write), Heard::Nothing),
-        Ok(AskingStep::Sending(write)) => {
-            let version = write.version();
-            (Operation::Sending(write), Heard::Sends(version))
-        }
-        Err((refusal, write)) => (Operation::Asking(write), Heard::Refused(refusal.number())),
-    }
-}
-
-// What came of a sending write or a read, which has this place in a table.
-fn outcome<S, F: FnOnce(S) -> Operation>(
-    answered: Result<Step<S>, (Refusal, S)>,
-    place: F,
-) -> (Operation, Heard)
-    requires { F.IsAlwaysCallable place }
-{
-    match answered {
-        Ok(Step::On(state)) => (place(state), Heard::Nothing),
-        Ok(Step::Ended(end)) => (Operation::Ended, Heard::Ended(end)),
-        Err((refusal, state)) => (place(state), Heard::Refused(refusal.number())),
-    }
 }
 
 pub(crate) fn hand<I: QuorumSystem, O: QuorumSystem>(
@@ -50,11 +21,14 @@ pub(crate) fn hand<I: QuorumSystem, O: QuorumSystem>(
     message: &Message,
     systems: &Systems<I, O>,
 ) -> (Operation, Heard) {
-    match state {
-        Operation::Asking(write) => ask(write, message, systems),
-        Operation::Sending(write) => outcome(write.answer(message, systems), Operation::Sending),
-        Operation::Reading(read) => outcome(read.answer(message, systems), Operation::Reading),
-        Operation::Unused | Operation::Ended => (state, Heard::Nothing),
+    match state.answer(message, systems) {
+        Ok(Reaction::On(state)) => (state, Heard::Nothing),
+        Ok(Reaction::Sends(write)) => {
+            let version = write.version();
+            (Operation::Sending(write), Heard::Sends(version))
+        }
+        Ok(Reaction::Ends(delivery)) => (Operation::Ended, Heard::Ended(delivery)),
+        Err((refusal, state)) => (state, Heard::Refused(refusal.number())),
     }
 }
 

@@ -1,9 +1,9 @@
 // Reads, from three output servers by majority.
 use crate::handing::{Heard, clock, last, named, pair};
 use numbers::Version;
-use operation::{End, Operation, Read};
+use operation::{Operation, Read};
 use quorum::{Majority, ReadOneWriteAll, Systems};
-use rules::Message;
+use rules::{Delivery, Message};
 use std::process::Abort;
 use std::test::Fail;
 
@@ -23,7 +23,7 @@ fn reading(rt: &impl Abort, messages: &[Message], heard: Heard) -> Result<(), Fa
 }
 
 fn ended(version: Version, value: u64) -> Heard {
-    Heard::Ended(End {
+    Heard::Ended(Delivery::ReadEnded {
         operation: 5,
         version,
         value,

@@ -10,7 +10,7 @@ use Rattle.rules.specs.declared.pairs.Pairs.{Pairs}
 use Rattle.rules.specs.declared.parts.Parts.{Parts}
 use Rattle.rules.specs.Lists.{list_of}
 use Rattle.rules.specs.Output.{Output, later_output, answers_read, after_answer, acknowledgement, after_invalidation, answers_invalidation}
-use Rattle.rules.specs.State.{Said, accepted, refused}
+use Rattle.rules.specs.Said.{Said, accepted, refused}
 use Rattle.rules.specs.Steps.{Step, steps, stays, with_room}
 
 -- time passes; a clock does not pass the last time

@@ -1,4 +1,5 @@
 pub mod Logging
 pub mod Places
+pub mod Reactions
 pub mod Rising
 pub mod Taken

@@ -4,7 +4,7 @@ use Rattle.quorum.specs.declared.refusal.Refusal.{Refusal}
 use Rattle.quorum.specs.Refusals.{number_of}
 use Rattle.rules.specs.declared.delivery.Delivery.{Delivery}
 use Rattle.rules.specs.declared.delivery.Delivery.TheVariants.{NothingEnded, WriteEnded, ReadEnded}
-use Rattle.rules.specs.State.{Said, refused, accepted, began, nothing_ended, write_ended, read_ended}
+use Rattle.rules.specs.Said.{Said, refused, accepted, began, nothing_ended, write_ended, read_ended}
 
 -- an opening or an advance
 abbrev pub acceptance : Result (Unit {0}) Refusal → Said

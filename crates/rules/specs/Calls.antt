@@ -1,26 +1,27 @@
 -- The four calls: what each says, and the field, log and table that it leaves.
-use Rattle.std.specs.Prelude.{ℕ, zero, suc, ◌+◌, ◌-◌, Bool, true, cond, not, ◌&&◌, ◌||◌, List, [], ◌∷◌, length, ◌==◌, nat_le, nat_lt, slice_index, slice_index_or, slice_set}
+use Rattle.std.specs.Prelude.{ℕ, zero, suc, ◌+◌, ◌-◌, Bool, true, if◌then◌else◌, not, ◌&&◌, ◌||◌, List, [], ◌∷◌, length, ◌==◌, nat_le, nat_lt, slice_index, slice_index_or, slice_set}
 use Rattle.std.specs.List.{list_all}
-use Rattle.quorum.specs.declared.member_set.MemberSet.{MemberSet}
 use Rattle.quorum.specs.Sets.{all_below}
 use Rattle.quorum.specs.Systems.{System}
 use Rattle.rules.specs.declared.message.Message.{Message}
 use Rattle.rules.specs.declared.message.Message.TheVariants.{ClockQuestion, ClockAnswer, WriteRequest, WriteAnswer, ReadRequest, ReadAnswer, RenewalRequest, RenewalAnswer, Invalidation, InvalidationAnswer}
 use Rattle.numbers.specs.declared.time.Time.{Time}
-use Rattle.numbers.specs.declared.version.Version.{Version}
 use Rattle.rules.specs.Input.{answers_clock, after_write, answers_write, after_renewal, answers_renewal, acknowledges_all, first_input, later_input}
 use Rattle.rules.specs.Lists.{list_of, each}
 use Rattle.numbers.specs.Numbers.{between, keeps_pair, last_time, longest}
-use Rattle.rules.specs.Operation.{Operation, unused, asking, sending, reading, ended, first_asking, first_reading, clock_questions, read_requests, hears_clock, knows_clock, gets_version, write_requests, hears_named, is_written, hears_pair, is_read}
+use Rattle.rules.specs.Operation.{Operation, unused, asking, reading, first_asking, first_reading, clock_questions, read_requests}
 use Rattle.rules.specs.Output.{answers_read, after_answer, acknowledgement, after_invalidation, answers_invalidation, first_output, later_output}
 use Rattle.rules.specs.Ranges.{numbers_fit, operation_fits, state_fits, has_room}
-use Rattle.rules.specs.State.{State, accepted, began, nothing_ended, write_ended, read_ended, Outcome, outcome, refuse, input_at, output_at, post, with_input, with_output}
+use Rattle.rules.specs.Reaction.{Reaction, reacts}
+use Rattle.rules.specs.Said.{accepted, began, nothing_ended}
+use Rattle.rules.specs.State.{State, Outcome, outcome, refuse, input_at, output_at, post, with_input, with_output}
 
 -- ---- opening
 
 -- every server in its first state, with its start clock; the places beyond the counts stay at 0
 abbrev pub start_clock : List Time → ℕ → ℕ → ℕ → Time
-start_clock clocks from count i = cond (nat_lt i count) (slice_index_or clocks (from + i) (record { 0 = 0 })) (record { 0 = 0 })
+start_clock clocks from count i =
+    if nat_lt i count then slice_index_or clocks (from + i) (record { 0 = 0 }) else record { 0 = 0 }
 
 abbrev pub opened : ℕ → ℕ → ℕ → ℕ → ℕ → List Time → State → State
 opened n m k lease drift clocks s = record {
@@ -45,14 +46,14 @@ clocks_fit ts = list_all (λ t. nat_le t.0 last_time) ts
 
 unfoldable pub opening : System → System → ℕ → ℕ → ℕ → List Time → State → Outcome
 opening inputs outputs k lease drift clocks s =
-    cond s.frame.is_open (refuse 1 s)
-    (cond (nat_lt 8 inputs.count || nat_lt 8 outputs.count) (refuse 2 s)
-    (cond (not (between 1 16 k)) (refuse 3 s)
-    (cond (not (between 1 longest lease)) (refuse 4 s)
-    (cond (nat_lt 999 drift) (refuse 5 s)
-    (cond (not (length clocks == inputs.count + outputs.count && clocks_fit clocks)) (refuse 6 s)
-    (cond (not (between 9 65535 (length s.log) && between 1 1024 (length s.table))) (refuse 7 s)
-    (outcome accepted (opened inputs.count outputs.count k lease drift clocks s))))))))
+    if s.frame.is_open then refuse 1 s
+    else if nat_lt 8 inputs.count || nat_lt 8 outputs.count then refuse 2 s
+    else if not (between 1 16 k) then refuse 3 s
+    else if not (between 1 longest lease) then refuse 4 s
+    else if nat_lt 999 drift then refuse 5 s
+    else if not (length clocks == inputs.count + outputs.count && clocks_fit clocks) then refuse 6 s
+    else if not (between 9 65535 (length s.log) && between 1 1024 (length s.table)) then refuse 7 s
+    else outcome accepted (opened inputs.count outputs.count k lease drift clocks s)
 
 -- ---- what every later call asks first
 
@@ -66,7 +67,8 @@ as_opened inputs outputs s =
 
 abbrev pub when_open : System → System → State → Outcome → Outcome
 when_open inputs outputs s x =
-    cond s.frame.is_open (cond (as_opened inputs outputs s) x (refuse 9 s)) (refuse 8 s)
+    if s.frame.is_open then if as_opened inputs outputs s then x else refuse 9 s
+    else refuse 8 s
 
 -- nine messages can be made
 abbrev pub has_nine : State → Bool
@@ -109,31 +111,23 @@ advanced increments s =
 
 unfoldable pub advancing : System → System → List ℕ → State → Outcome
 advancing inputs outputs increments s = when_open inputs outputs s
-    (cond (not (length increments == s.frame.counts.n + s.frame.counts.m)) (refuse 11 s)
-    (cond (not (inputs_stay increments s.frame.counts.n s && outputs_stay increments s.frame.counts.m s)) (refuse 12 s)
-    (cond (not (keeps_drift s.frame.drift increments)) (refuse 13 s)
-    (outcome accepted (advanced increments s)))))
+    (if not (length increments == s.frame.counts.n + s.frame.counts.m) then refuse 11 s
+    else if not (inputs_stay increments s.frame.counts.n s && outputs_stay increments s.frame.counts.m s) then refuse 12 s
+    else if not (keeps_drift s.frame.drift increments) then refuse 13 s
+    else outcome accepted (advanced increments s))
 
 -- ---- beginning
 
 -- the next operation stands in the table
 abbrev pub enter : Operation → State → State
-enter x s = record {
-  frame = s.frame;
-  made = s.made;
-  begun = s.begun + 1;
-  inputs = s.inputs;
-  outputs = s.outputs;
-  log = s.log;
-  table = slice_set s.table s.begun x;
-}
+enter x s = record s { begun = s.begun + 1; table = slice_set s.table s.begun x }
 
 abbrev pub beginning : System → System → ℕ → Operation → List Message → State → Outcome
 beginning inputs outputs o x requests s = when_open inputs outputs s
-    (cond (nat_le s.frame.counts.k o) (refuse 21 s)
-    (cond (nat_le (length s.table) s.begun) (refuse 22 s)
-    (cond (not (has_nine s)) (refuse 23 s)
-    (outcome (began (s.begun + 1)) (post requests (enter x s))))))
+    (if nat_le s.frame.counts.k o then refuse 21 s
+    else if nat_le (length s.table) s.begun then refuse 22 s
+    else if not (has_nine s) then refuse 23 s
+    else outcome (began (s.begun + 1)) (post requests (enter x s)))
 
 unfoldable pub beginning_write : System → System → ℕ → ℕ → State → Outcome
 beginning_write inputs outputs o x s =
@@ -150,15 +144,7 @@ abbrev pub operation_at : State → ℕ → Operation
 operation_at s p = slice_index_or s.table (p - 1) unused
 
 abbrev pub with_operation : ℕ → Operation → State → State
-with_operation p x s = record {
-  frame = s.frame;
-  made = s.made;
-  begun = s.begun;
-  inputs = s.inputs;
-  outputs = s.outputs;
-  log = s.log;
-  table = slice_set s.table (p - 1) x;
-}
+with_operation p x s = record s { table = slice_set s.table (p - 1) x }
 
 -- operation p is begun, and its state is in range
 abbrev pub is_known : State → ℕ → Bool
@@ -170,48 +156,25 @@ in_range x s = numbers_fit s.frame.counts x && operation_fits (is_known s) (λ p
 abbrev pub quiet : State → Outcome
 quiet s = outcome nothing_ended s
 
-abbrev pub hears_clock_answer : System → ℕ → ℕ → ℕ → Operation → State → Outcome
-hears_clock_answer inputs i p c unused s = quiet s
-hears_clock_answer inputs i p c (asking a) s =
-    cond (knows_clock inputs (hears_clock i c a))
-    (quiet (post (write_requests s.frame.counts.n (gets_version (hears_clock i c a)))
-    (with_operation p (sending (gets_version (hears_clock i c a))) s)))
-    (quiet (with_operation p (asking (hears_clock i c a)) s))
-hears_clock_answer inputs i p c (sending w) s = quiet s
-hears_clock_answer inputs i p c (reading r) s = quiet s
-hears_clock_answer inputs i p c ended s = quiet s
+-- what becomes of a field where operation p reacts so: its next state stands in the table, and what it sends is logged
+abbrev pub reacted : ℕ → Reaction → State → Outcome
+reacted p r s = outcome r.said (post r.sends (with_operation p r.next s))
 
-abbrev pub hears_write_answer : System → System → ℕ → ℕ → MemberSet → Operation → State → Outcome
-hears_write_answer inputs outputs i p t unused s = quiet s
-hears_write_answer inputs outputs i p t (asking a) s = quiet s
-hears_write_answer inputs outputs i p t (sending w) s =
-    cond (is_written inputs outputs (hears_named i t w))
-    (outcome (write_ended p w.version.0 w.value) (with_operation p ended s))
-    (quiet (with_operation p (sending (hears_named i t w)) s))
-hears_write_answer inputs outputs i p t (reading r) s = quiet s
-hears_write_answer inputs outputs i p t ended s = quiet s
-
-abbrev pub hears_read_answer : System → ℕ → ℕ → Version → ℕ → Operation → State → Outcome
-hears_read_answer outputs j p v x unused s = quiet s
-hears_read_answer outputs j p v x (asking a) s = quiet s
-hears_read_answer outputs j p v x (sending w) s = quiet s
-hears_read_answer outputs j p v x (reading r) s =
-    cond (is_read outputs (hears_pair j v x r))
-    (outcome (read_ended p (hears_pair j v x r).version.0 (hears_pair j v x r).value) (with_operation p ended s))
-    (quiet (with_operation p (reading (hears_pair j v x r)) s))
-hears_read_answer outputs j p v x ended s = quiet s
+-- operation p is handed a message
+abbrev pub handed_to : System → System → Message → ℕ → State → Outcome
+handed_to inputs outputs m p s = reacted p (reacts inputs outputs m (operation_at s p)) s
 
 -- what a message in range does
 unfoldable pub receives : System → System → Message → State → Outcome
 receives inputs outputs (ClockQuestion p i) s = quiet (post (answers_clock i p (input_at s i)) s)
-receives inputs outputs (ClockAnswer i p c) s = hears_clock_answer inputs i p c (operation_at s p) s
+receives inputs outputs (ClockAnswer i p c) s = handed_to inputs outputs (ClockAnswer i p c) p s
 receives inputs outputs (WriteRequest p i o v x) s =
     quiet (post (answers_write i p s.frame.counts.m o (after_write s.frame.counts.m o v x (input_at s i)))
     (with_input i (after_write s.frame.counts.m o v x (input_at s i)) s))
-receives inputs outputs (WriteAnswer i p t) s = hears_write_answer inputs outputs i p t (operation_at s p) s
+receives inputs outputs (WriteAnswer i p t) s = handed_to inputs outputs (WriteAnswer i p t) p s
 receives inputs outputs (ReadRequest p j o) s =
     quiet (post (answers_read inputs j p s.frame.counts.n o (output_at s j)) s)
-receives inputs outputs (ReadAnswer j p v x) s = hears_read_answer outputs j p v x (operation_at s p) s
+receives inputs outputs (ReadAnswer j p v x) s = handed_to inputs outputs (ReadAnswer j p v x) p s
 receives inputs outputs (RenewalRequest j i a o stamp) s =
     quiet (post (answers_renewal i s.frame.lease j a o stamp (input_at s i) ∷ [])
     (with_input i (after_renewal s.frame.lease j a o (input_at s i)) s))
@@ -232,7 +195,7 @@ message_at s number = slice_index_or s.log (number - 1) no_message
 
 unfoldable pub delivering : System → System → ℕ → State → Outcome
 delivering inputs outputs number s = when_open inputs outputs s
-    (cond (number == 0 || nat_lt s.made number) (refuse 31 s)
-    (cond (not (has_nine s)) (refuse 32 s)
-    (cond (not (in_range (message_at s number) s)) (refuse 33 s)
-    (receives inputs outputs (message_at s number) s))))
+    (if number == 0 || nat_lt s.made number then refuse 31 s
+    else if not (has_nine s) then refuse 32 s
+    else if not (in_range (message_at s number) s) then refuse 33 s
+    else receives inputs outputs (message_at s number) s)

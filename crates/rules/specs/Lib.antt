@@ -5,6 +5,8 @@ pub mod Lists
 pub mod Operation
 pub mod Output
 pub mod Ranges
+pub mod Reaction
 pub mod Renewals
+pub mod Said
 pub mod State
 pub mod Steps

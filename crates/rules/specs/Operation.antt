@@ -1,5 +1,5 @@
 -- An operation: its states, what it gathers from answers, and when it ends.
-use Rattle.std.specs.Prelude.{ℕ, ◌+◌, max, Bool, cond, List, [], ◌∷◌, replicate, bit_or, nat_lt, slice_index_or, slice_set}
+use Rattle.std.specs.Prelude.{ℕ, ◌+◌, max, Bool, if◌then◌else◌, List, [], ◌∷◌, replicate, bit_or, nat_lt, slice_index_or, slice_set}
 use Rattle.quorum.specs.declared.member_set.MemberSet.{MemberSet}
 use Rattle.quorum.specs.Sets.{has, joined, set_of}
 use Rattle.quorum.specs.Systems.{System}
@@ -59,13 +59,7 @@ read_requests p o m = each m (λ j. ReadRequest p j o ∷ [])
 -- ---- clock answer from input server i
 
 abbrev pub hears_clock : ℕ → ℕ → Asking → Asking
-hears_clock i c a = record {
-  operation = a.operation;
-  object = a.object;
-  value = a.value;
-  senders = joined a.senders i;
-  clock = max a.clock c;
-}
+hears_clock i c a = record a { senders = joined a.senders i; clock = max a.clock c }
 
 -- the senders are a read set, so the write can have its version
 abbrev pub knows_clock : System → Asking → Bool
@@ -91,13 +85,8 @@ abbrev pub named_by : List MemberSet → ℕ → ℕ
 named_by named i = (slice_index_or named i (record { 0 = 0 })).0
 
 abbrev pub hears_named : ℕ → MemberSet → Sending → Sending
-hears_named i s w = record {
-  operation = w.operation;
-  object = w.object;
-  version = w.version;
-  value = w.value;
-  named = slice_set w.named i (record { 0 = bit_or (named_by w.named i) s.0 });
-}
+hears_named i s w =
+    record w { named = slice_set w.named i (record { 0 = bit_or (named_by w.named i) s.0 }) }
 
 -- output server j counts: the input servers below n that named it are a write set
 abbrev pub counts : System → ℕ → List MemberSet → ℕ → Bool
@@ -110,12 +99,10 @@ is_written inputs outputs w = outputs.writes (set_of outputs.count (counts input
 -- ---- read answer from output server j
 
 abbrev pub hears_pair : ℕ → Version → ℕ → Reading → Reading
-hears_pair j v x r = record {
-  operation = r.operation;
-  object = r.object;
+hears_pair j v x r = record r {
   senders = joined r.senders j;
-  version = cond (nat_lt r.version.0 v.0) v r.version;
-  value = cond (nat_lt r.version.0 v.0) x r.value;
+  version = if nat_lt r.version.0 v.0 then v else r.version;
+  value = if nat_lt r.version.0 v.0 then x else r.value;
 }
 
 abbrev pub is_read : System → Reading → Bool

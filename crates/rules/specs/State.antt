@@ -6,6 +6,7 @@ use Rattle.rules.specs.Input.{Input, first_input}
 use Rattle.rules.specs.Operation.{Operation}
 use Rattle.rules.specs.Output.{Output, first_output}
 use Rattle.rules.specs.Ranges.{Counts}
+use Rattle.rules.specs.Said.{Said, refused}
 
 -- what opening fixes
 pub record Frame : Type 0 where
@@ -27,15 +28,7 @@ pub record State : Type 0 where
   pub log : List Message
   pub table : List Operation
 
--- what a call says. A refusal is known by its number; the end of an operation has its number, version and value
-pub data Said : Type 0 where
-  refused : ℕ → Said
-  accepted : Said
-  began : ℕ → Said
-  nothing_ended : Said
-  write_ended : ℕ → ℕ → ℕ → Said
-  read_ended : ℕ → ℕ → ℕ → Said
-
+-- what a call says, and what it leaves
 pub record Outcome : Type 0 where
   pub said : Said
   pub after : State
@@ -65,34 +58,10 @@ output_at s j = slice_index_or s.outputs j no_output
 
 -- messages are logged after those made before
 abbrev pub post : List Message → State → State
-post new s = record {
-  frame = s.frame;
-  made = s.made + length new;
-  begun = s.begun;
-  inputs = s.inputs;
-  outputs = s.outputs;
-  log = sets s.log s.made new;
-  table = s.table;
-}
+post new s = record s { made = s.made + length new; log = sets s.log s.made new }
 
 abbrev pub with_input : ℕ → Input → State → State
-with_input i I s = record {
-  frame = s.frame;
-  made = s.made;
-  begun = s.begun;
-  inputs = slice_set s.inputs i I;
-  outputs = s.outputs;
-  log = s.log;
-  table = s.table;
-}
+with_input i I s = record s { inputs = slice_set s.inputs i I }
 
 abbrev pub with_output : ℕ → Output → State → State
-with_output j O s = record {
-  frame = s.frame;
-  made = s.made;
-  begun = s.begun;
-  inputs = s.inputs;
-  outputs = slice_set s.outputs j O;
-  log = s.log;
-  table = s.table;
-}
+with_output j O s = record s { outputs = slice_set s.outputs j O }

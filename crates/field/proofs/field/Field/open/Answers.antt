@@ -1,7 +1,7 @@
 use Rattle.std.proofs.Common.{Some, sym, ◌∙◌}
 use Rattle.std.proofs.lemmas.Result.{err_from_is_err_and}
 use Rattle.guarantee.specs.Story.{to_open, outcome_of}
-use Rattle.rules.specs.State.{accepted, refused}
+use Rattle.rules.specs.Said.{accepted, refused}
 use Rattle.field.specs.Views.{field_of}
 use Rattle.field.proofs.Continued.{guaranteed}
 use Rattle.field.proofs.Opens.{open_again, open_refuses, opens}

@@ -1,0 +1,49 @@
+// What the operation at a place of the table does with an answer.
+ghost use Rattle.std.specs.Prelude.{◌≡◌};
+ghost use Rattle.operation.specs.Alone.{alone};
+ghost use Rattle.operation.specs.Says.{HandsBack, place_says};
+ghost use Rattle.operation.specs.States.{operation_of};
+
+use crate::steps::{AskingStep, Step};
+use crate::table::{Operation, Reaction};
+use quorum::{QuorumSystem, Refusal, Systems};
+use rules::{Delivery, Message};
+
+impl Operation {
+    // One message more, for whatever is at the place. A refusal hands it back.
+    pub fn answer<I: QuorumSystem, O: QuorumSystem>(
+        self,
+        message: &Message,
+        systems: &Systems<I, O>,
+    ) -> Result<Reaction, (Refusal, Operation)>
+        ensures does { alone (I.QuorumSystem.meaning systems.now.inputs) (O.QuorumSystem.meaning systems.now.outputs) message.now (operation_of self) ≡ place_says (I.QuorumSystem.meaning systems.now.inputs) result }
+        ensures same { HandsBack self result }
+    {
+        match self {
+            Operation::Asking(write) => match write.answer(message, systems) {
+                Ok(AskingStep::Asking(write)) => Ok(Reaction::On(Operation::Asking(write))),
+                Ok(AskingStep::Sending(write)) => Ok(Reaction::Sends(write)),
+                Err((refusal, write)) => Err((refusal, Operation::Asking(write))),
+            },
+            Operation::Sending(write) => match write.answer(message, systems) {
+                Ok(Step::On(write)) => Ok(Reaction::On(Operation::Sending(write))),
+                Ok(Step::Ended(end)) => Ok(Reaction::Ends(Delivery::WriteEnded {
+                    operation: end.operation,
+                    version: end.version,
+                    value: end.value,
+                })),
+                Err((refusal, write)) => Err((refusal, Operation::Sending(write))),
+            },
+            Operation::Reading(read) => match read.answer(message, systems) {
+                Ok(Step::On(read)) => Ok(Reaction::On(Operation::Reading(read))),
+                Ok(Step::Ended(end)) => Ok(Reaction::Ends(Delivery::ReadEnded {
+                    operation: end.operation,
+                    version: end.version,
+                    value: end.value,
+                })),
+                Err((refusal, read)) => Err((refusal, Operation::Reading(read))),
+            },
+            Operation::Unused | Operation::Ended => Ok(Reaction::On(self)),
+        }
+    }
+}
