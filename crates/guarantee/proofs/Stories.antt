@@ -12,8 +12,8 @@ use Rattle.rules.specs.Reaction.{Reaction}
 use Rattle.rules.proofs.Reactions.{every_reaction}
 use Rattle.rules.specs.Said.{refused, accepted, began}
 use Rattle.rules.specs.State.{Frame, State, Outcome, refuse}
-use Rattle.guarantee.specs.Story.{Story, Call, to_open, to_advance, to_write, to_read, to_deliver, outcome_of, call_at, before, said_at, logged_at, part, Has, BeginsWrite, BeginsRead, Gets, EndsWrite, EndsRead}
-use Rattle.guarantee.specs.Guarantee.{NeverBehind, NeverInvented, AlwaysRising, OneVersion, Written, EndOf, Guarantee, EveryStory}
+use Rattle.guarantee.specs.Story.{Story, Call, to_open, to_advance, to_write, to_read, to_deliver, outcome_of, call_at, before, said_at, logged_at, part, Has, BeginsWrite, BeginsRead, BeginsAsWrite, BeginsAsRead, Gets, EndsWrite, EndsRead}
+use Rattle.guarantee.specs.Guarantee.{NeverBehind, NeverInvented, AlwaysRising, OneVersion, Written, EndOf, BegunOnce, WhatEndsHasBegun, Guarantee, EveryStory}
 use Rattle.guarantee.proofs.Bridge.{params_of, act_of, says_of, news_of, Framed, Accepted, none_logged}
 use Rattle.guarantee.proofs.CallSteps.{Refuses, Stepped, call_step}
 use Rattle.guarantee.proofs.Ends.{WriteEnds, write_ends, ReadEnds, read_ends, GetsVersion, gets_version_lem, asks_read, begins_next}
@@ -246,6 +246,9 @@ module _ (S : Story) (in_lawful : Lawful S.inputs) (out_lawful : Lawful S.output
               value = x;
               is = refl;
               logged = subst (λ (new : List Message). Has new (WriteRequest p i o v x)) (sym h.news) (in_has (WriteRequest p i o v x) _ n);
+              begins = (begins e).0;
+              earlier = (begins e).1;
+              begun = (o, x, (begins e).2);
             },
           ),
         )
@@ -782,12 +785,48 @@ module _ (S : Story) (in_lawful : Lawful S.inputs) (out_lawful : Lawful S.output
             value = λ b o x f. sym h.value ∙ (same_write m.0.0 b p h.write.object h.write.value o x m.0.2 f).1;
           }
 
+  -- ---- what ends has begun
+
+  -- an operation that a call began, and no other call began it
+  begun_once : (t p b : ℕ) (Kind Other : ℕ → Type 0) → b < t → b < calls → said_at S b ≡ began p → Kind b
+      → ((u : ℕ) → Kind u → (u < calls) × (said_at S u ≡ began p)) → ((u : ℕ) → Other u → (u < calls) × (said_at S u ≡ began p)) → (Other b → ⊥)
+      → BegunOnce t Kind Other
+  begun_once t p b Kind Other earlier made said kind kinds others apart = record {
+    begins = b;
+    earlier = earlier;
+    begun = kind;
+    once = λ u k. let s = kinds u k in once u b p s.0 made s.1 said;
+    never = λ u k. let s = others u k in apart (subst Other (once u b p s.0 made s.1 said) k);
+  }
+
+  -- no call begins both a write and a read
+  one_kind : (b p q o x r : ℕ) → BeginsWrite S b p o x → BeginsRead S b q r → ⊥
+  one_kind b p q o x r f g = let e : to_write o x ≡ to_read r = sym f.call ∙ g.call in never (cc)
+
+  what_ends_has_begun : WhatEndsHasBegun S
+  what_ends_has_begun = (write, read)
+    where
+      write : (p t w y : ℕ) → EndsWrite S t p w y → BegunOnce t (λ u. BeginsAsWrite S u p) (λ u. BeginsAsRead S u p)
+      write p t w y e =
+          let E = end_of_write t p w y e in
+          let r : (b : ℕ) × (b < t) × BeginsWrite S b p E.how.write.object E.how.write.value = subst (OpTraced t p) E.how.op (E.known.traced.ops p E.begun) in
+          begun_once t p r.0 (λ u. BeginsAsWrite S u p) (λ u. BeginsAsRead S u p) r.1 r.2.made r.2.said (E.how.write.object, E.how.write.value, r.2)
+          (λ u k. (k.2.made, k.2.said)) (λ u k. (k.1.made, k.1.said)) (λ k. one_kind r.0 p p _ _ k.0 r.2 k.1)
+
+      read : (p t v z : ℕ) → EndsRead S t p v z → BegunOnce t (λ u. BeginsAsRead S u p) (λ u. BeginsAsWrite S u p)
+      read p t v z e =
+          let E = end_of_read t p v z e in
+          let r : (b : ℕ) × (b < t) × BeginsRead S b p E.how.read.object = subst (OpTraced t p) E.how.op (E.known.traced.ops p E.begun) in
+          begun_once t p r.0 (λ u. BeginsAsRead S u p) (λ u. BeginsAsWrite S u p) r.1 r.2.made r.2.said (E.how.read.object, r.2)
+          (λ u k. (k.1.made, k.1.said)) (λ u k. (k.2.made, k.2.said)) (λ k. one_kind r.0 p p k.0 k.1 _ k.2 r.2)
+
   pub guarantee : Guarantee S
   guarantee = record {
     never_behind = never_behind;
     never_invented = never_invented;
     always_rising = always_rising;
     one_version = one_version;
+    begun = what_ends_has_begun;
   }
 
 pub every_story : EveryStory

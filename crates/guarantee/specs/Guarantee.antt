@@ -1,7 +1,7 @@
 -- The read guarantee: what holds in every story, over any two quorum systems that show the laws.
 use Rattle.std.specs.Prelude.{◌≡◌, ℕ, ◌<◌, ◌≤◌, false, ◌⊎◌}
 use Rattle.quorum.specs.Systems.{Lawful}
-use Rattle.guarantee.specs.Story.{Story, BeginsWrite, BeginsRead, Gets, EndsWrite, EndsRead}
+use Rattle.guarantee.specs.Story.{Story, BeginsWrite, BeginsRead, BeginsAsWrite, BeginsAsRead, Gets, EndsWrite, EndsRead}
 
 -- A read that ends has a version at least that of every write of its object that ended before the read began.
 abbrev pub NeverBehind : Story → Type 0
@@ -47,11 +47,26 @@ OneVersion S =
     ((p g h v w : ℕ) → Gets S g p v → Gets S h p w → (g ≡ h) × (v ≡ w))
     × ((p t w y : ℕ) → EndsWrite S t p w y → EndOf S t p w y)
 
+-- What ends has begun: with one call before it, as what it ends as, and with no other call. One call before number t is of
+-- this kind, no other call of the story is, and none is of the other kind.
+pub record BegunOnce (t : ℕ) (Kind Other : ℕ → Type 0) : Type 0 where
+  pub begins : ℕ
+  pub earlier : begins < t
+  pub begun : Kind begins
+  pub once : (u : ℕ) → Kind u → u ≡ begins
+  pub never : (u : ℕ) → Other u → ⊥
+
+abbrev pub WhatEndsHasBegun : Story → Type 0
+WhatEndsHasBegun S =
+    ((p t w y : ℕ) → EndsWrite S t p w y → BegunOnce t (λ u. BeginsAsWrite S u p) (λ u. BeginsAsRead S u p))
+    × ((p t v z : ℕ) → EndsRead S t p v z → BegunOnce t (λ u. BeginsAsRead S u p) (λ u. BeginsAsWrite S u p))
+
 pub record Guarantee (S : Story) : Type 0 where
   pub never_behind : NeverBehind S
   pub never_invented : NeverInvented S
   pub always_rising : AlwaysRising S
   pub one_version : OneVersion S
+  pub begun : WhatEndsHasBegun S
 
 -- for every story
 abbrev pub EveryStory : Type 0

@@ -77,7 +77,15 @@ pub record BeginsRead (S : Story) (t p o : ℕ) : Type 0 where
   pub call : call_at S t ≡ to_read o
   pub said : said_at S t ≡ began p
 
--- with call number t, a delivery, the write p gets its version v: it logs a write request of p with that version
+-- call number t begins the operation p as a write, or as a read, whatever the object and the value
+abbrev pub BeginsAsWrite : Story → ℕ → ℕ → Type 0
+BeginsAsWrite S t p = (o : ℕ) × (x : ℕ) × BeginsWrite S t p o x
+
+abbrev pub BeginsAsRead : Story → ℕ → ℕ → Type 0
+BeginsAsRead S t p = (o : ℕ) × BeginsRead S t p o
+
+-- With call number t, a delivery, the write p gets its version v: it logs a write request of p with that version. That p
+-- is a write is what a call before it says; an operation that sends write requests is no write by that alone.
 pub record Gets (S : Story) (t p v : ℕ) : Type 0 where
   pub made : t < length S.calls
   pub number : ℕ
@@ -88,6 +96,9 @@ pub record Gets (S : Story) (t p v : ℕ) : Type 0 where
   pub value : ℕ
   pub is : version.0 ≡ v
   pub logged : Has (logged_at S t) (WriteRequest p input object version value)
+  pub begins : ℕ
+  pub earlier : begins < t
+  pub begun : BeginsAsWrite S begins p
 
 -- with call number t the write p ends, with version v and value x
 pub record EndsWrite (S : Story) (t p v x : ℕ) : Type 0 where

@@ -33,6 +33,9 @@ write_then_read_holds = record {
     value = 7;
     is = refl;
     logged = (0, lit< tt, refl);
+    begins = 1;
+    earlier = lit< tt;
+    begun = (0, 7, record { made = lit< tt; call = refl; said = refl });
   };
   write_ends = record { made = lit< tt; said = refl };
   read_begins = record { made = lit< tt; call = refl; said = refl };
@@ -60,6 +63,9 @@ under_lease_holds = record {
     value = 8;
     is = refl;
     logged = (0, lit< tt, refl);
+    begins = 12;
+    earlier = lit< tt;
+    begun = (0, 8, record { made = lit< tt; call = refl; said = refl });
   };
   invalidates = refl;
   names_nobody = refl;
@@ -96,6 +102,9 @@ lease_over_holds = record {
     value = 7;
     is = refl;
     logged = (0, lit< tt, refl);
+    begins = 8;
+    earlier = lit< tt;
+    begun = (0, 7, record { made = lit< tt; call = refl; said = refl });
   };
   none_waits = refl;
   one_waits = refl;
