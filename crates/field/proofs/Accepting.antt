@@ -9,17 +9,9 @@ use Rattle.rules.specs.declared.message.Message.TheVariants.{ClockAnswer, WriteA
 use Rattle.rules.specs.Operation.{Operation, unused, asking, sending, reading, ended, named_by}
 use Rattle.rules.specs.Ranges.{Counts, numbers_fit, operation_fits, named_fit, state_fits, has_room}
 use Rattle.operation.specs.Alone.{widest, too_many, refusal_with, refusal_at}
+use Rattle.field.specs.Delivered.{IsAnswerTo}
+use Rattle.field.proofs.Handing.{both}
 use Rattle.field.proofs.Places.{IsOf, fits_is_of}
-
--- the message is an answer to operation p
-abbrev pub IsAnswerTo : ℕ → Message → Type 0
-IsAnswerTo p (ClockAnswer i q c) = q ≡ p
-IsAnswerTo p (WriteAnswer i q s) = q ≡ p
-IsAnswerTo p (ReadAnswer j q v x) = q ≡ p
-IsAnswerTo p m = ⊥
-
-both : {a b : Bool} → a ≡ true → b ≡ true → (a && b) ≡ true
-both {b = b} p q = ap (λ (x : Bool). x && b) p ∙ q
 
 module _ (i o : System) (c : Counts) (n_is : i.count ≡ c.n) (m_is : o.count ≡ c.m) (n_most : c.n ≤ 8) (m_most : c.m ≤ 8) (k_most : c.k ≤ 16) where
   -- ---- states

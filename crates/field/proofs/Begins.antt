@@ -56,14 +56,14 @@ pub beginnable : (i o : System) (f : Interior) (log : List Message) (table : Lis
 beginnable i o f log table b sound r =
     let s = state_of f log table in
     let p = later_passed i o s _ (sym r) in
-    let q = passes_first (leb f.objects b) 20 _ p.2 in
+    let q = passes_first (leb f.counts.objects.number b) 20 _ p.2 in
     let t = passes_first (leb (length s.table) f.begun) 21 _ q.1 in
     let u = passes_first (not (has_nine s)) 22 0 t.1 in
     let lent = lent_of i o f log table p.1 in
     let numbers = numbers_of f sound in
-    let object = leb-false f.objects b q.0 in
+    let object = leb-false f.counts.objects.number b q.0 in
     let free = leb-false (length s.table) f.begun t.0 in
-    let few = numbers.objects in
+    let few = f.counts.objects.inside in
     let most = numbers.table_most in
     let same = lent.table_as in
     let len = length-map table operation_of in

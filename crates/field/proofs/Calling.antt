@@ -6,13 +6,13 @@ use Rattle.quorum.specs.declared.refusal.Refusal.{Refusal}
 use Rattle.quorum.specs.Refusals.{number_of}
 use Rattle.quorum.specs.Systems.{System}
 use Rattle.rules.specs.declared.message.Message.{Message}
-use Rattle.rules.specs.Calls.{as_opened, when_open, has_nine, in_range, message_at, receives, delivering}
+use Rattle.rules.specs.Calls.{as_opened, when_open, has_nine, message_at, hands_over, delivering}
 use Rattle.rules.specs.State.{State, Outcome, refuse}
 use Rattle.operation.specs.declared.table.Operation.{Operation}
 use Rattle.operation.specs.States.{operation_of}
 use Rattle.field.specs.declared.interior.Interior.{Interior}
 use Rattle.field.specs.Checked.{later_refusal, delivery_check}
-use Rattle.field.specs.Delivered.{numbered, Deliverable}
+use Rattle.field.specs.Delivered.{Deliverable}
 use Rattle.field.specs.Sound.{Sound}
 use Rattle.field.specs.Views.{state_of}
 use Rattle.field.proofs.Refusing.{decide, refuses_first, refuses_else, passes_first, passes_else, call_refuses, call_passes}
@@ -24,20 +24,20 @@ use Rattle.field.proofs.Sounds.{Numbers, numbers_of, ready_of}
 pub record Lent (i o : System) (f : Interior) (log : List Message) (table : List Operation) : Type 0 where
   pub log_as : length log ≡ f.log_len
   pub table_as : length table ≡ f.table_len
-  pub inputs_as : i.count ≡ f.input_count.number
-  pub outputs_as : o.count ≡ f.output_count.number
+  pub inputs_as : i.count ≡ f.counts.inputs.number
+  pub outputs_as : o.count ≡ f.counts.outputs.number
 
 pub lent_of : (i o : System) (f : Interior) (log : List Message) (table : List Operation) → as_opened i o (state_of f log table) ≡ true
     → Lent i o f log table
 lent_of i o f log table b =
     let p = and_parts (eqb (length log) f.log_len) _ b in
     let q = and_parts (eqb (length (map operation_of table)) f.table_len) _ p.1 in
-    let r = and_parts (eqb i.count f.input_count.number) (eqb o.count f.output_count.number) q.1 in
+    let r = and_parts (eqb i.count f.counts.inputs.number) (eqb o.count f.counts.outputs.number) q.1 in
     record {
       log_as = eqb-true (length log) f.log_len p.0;
       table_as = sym (length-map table operation_of) ∙ eqb-true (length (map operation_of table)) f.table_len q.0;
-      inputs_as = eqb-true i.count f.input_count.number r.0;
-      outputs_as = eqb-true o.count f.output_count.number r.1;
+      inputs_as = eqb-true i.count f.counts.inputs.number r.0;
+      outputs_as = eqb-true o.count f.counts.outputs.number r.1;
     }
 
 pub later_tests : (i o : System) (s : State) (rest : ℕ) (y Y : Outcome) → y ≡ decide rest Y s
@@ -53,32 +53,20 @@ later_passed i o s rest e =
 
 -- ---- delivering
 
--- what follows the first tests
-abbrev opened_message : System → System → ℕ → State → Outcome
-opened_message i o number s = cond (not (in_range (message_at s number) s)) (refuse 33 s) (receives i o (message_at s number) s)
-
-delivering_is : (i o : System) (number : ℕ) (s : State) → delivering i o number s ≡ decide (delivery_check i o number s) (opened_message i o number s) s
+delivering_is : (i o : System) (number : ℕ) (s : State) → delivering i o number s ≡ decide (delivery_check i o number s) (hands_over i o (message_at s number) s) s
 unfolding delivering
 delivering_is i o number s =
-    later_tests i o s _ _ (opened_message i o number s)
-    (refuses_first (eqb number 0 || ltb s.made number) 30 _ _ (opened_message i o number s) s
-    (refuses_first (not (has_nine s)) 31 0 (opened_message i o number s) (opened_message i o number s) s refl))
+    later_tests i o s _ _ (hands_over i o (message_at s number) s)
+    (refuses_first (eqb number 0 || ltb s.made number) 30 _ _ (hands_over i o (message_at s number) s) s
+    (refuses_first (not (has_nine s)) 31 0 (hands_over i o (message_at s number) s) (hands_over i o (message_at s number) s) s refl))
 
 pub delivery_refuses : (i o : System) (number : ℕ) (s : State) (e : Refusal) → number_of e ≡ delivery_check i o number s
     → delivering i o number s ≡ refuse (number_of e) s
-delivery_refuses i o number s e r = call_refuses e _ _ (opened_message i o number s) s (delivering_is i o number s) r
+delivery_refuses i o number s e r = call_refuses e _ _ (hands_over i o (message_at s number) s) s (delivering_is i o number s) r
 
-pub delivery_out_of_range : (i o : System) (number : ℕ) (s : State) → 0 ≡ delivery_check i o number s → false ≡ in_range (message_at s number) s
-    → delivering i o number s ≡ refuse 33 s
-delivery_out_of_range i o number s r f =
-    call_passes _ _ (opened_message i o number s) s (delivering_is i o number s) r
-    ∙ ap (λ (b : Bool). cond (not b) (refuse 33 s) (receives i o (message_at s number) s)) (sym f)
-
-pub delivery_done : (i o : System) (number : ℕ) (s : State) (x : Outcome) → 0 ≡ delivery_check i o number s → true ≡ in_range (message_at s number) s
-    → receives i o (message_at s number) s ≡ x → delivering i o number s ≡ x
-delivery_done i o number s x r f e =
-    call_passes _ _ (opened_message i o number s) s (delivering_is i o number s) r
-    ∙ ap (λ (b : Bool). cond (not b) (refuse 33 s) (receives i o (message_at s number) s)) (sym f) ∙ e
+pub delivery_done : (i o : System) (number : ℕ) (s : State) (x : Outcome) → 0 ≡ delivery_check i o number s
+    → hands_over i o (message_at s number) s ≡ x → delivering i o number s ≡ x
+delivery_done i o number s x r e = call_passes _ _ (hands_over i o (message_at s number) s) s (delivering_is i o number s) r ∙ e
 
 -- what is known then
 pub record Passed (i o : System) (f : Interior) (log : List Message) (table : List Operation) (number : ℕ) : Type 0 where
@@ -109,19 +97,12 @@ pub begun_in_table : (i o : System) (f : Interior) (log : List Message) (table :
 begun_in_table i o f log table number p = let a = p.numbers.begun in let b = p.lent.table_as in omega arith
 
 pub deliverable : (i o : System) (f : Interior) (log : List Message) (table : List Operation) (number : ℕ) → Passed i o f log table number
-    → true ≡ in_range (numbered log number) (state_of f log table) → Deliverable i o f log table number
-deliverable i o f log table number p e =
-    let a = p.numbers.begun in
-    let b = p.numbers.table_most in
-    let c = p.made in
-    let d = p.room in
-    record {
-      ready = ready_of f log p.numbers p.lent.log_as p.room;
-      inputs_as = p.lent.inputs_as;
-      outputs_as = p.lent.outputs_as;
-      begun = begun_in_table i o f log table number p;
-      few = omega arith;
-      low = p.low;
-      high = omega arith;
-      within_range = sym e;
-    }
+    → Deliverable i o f log table number
+deliverable i o f log table number p = record {
+  ready = ready_of f log p.numbers p.lent.log_as p.room;
+  inputs_as = p.lent.inputs_as;
+  outputs_as = p.lent.outputs_as;
+  begun = begun_in_table i o f log table number p;
+  low = p.low;
+  high = omega (arith, p.made, p.room);
+}

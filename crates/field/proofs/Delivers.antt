@@ -9,16 +9,17 @@ use Rattle.rules.specs.Calls.{in_range, handed_to, receives}
 use Rattle.rules.specs.Ranges.{numbers_fit, operation_fits, state_fits, has_room}
 use Rattle.operation.specs.declared.table.Operation.{Operation}
 use Rattle.field.specs.declared.interior.Interior.{Interior}
-use Rattle.field.specs.Delivered.{numbered, Deliverable, Reached}
+use Rattle.field.specs.Delivered.{numbered, IsAnswerTo, Deliverable, Reached}
 use Rattle.field.specs.Ranging.{place_of, known_in}
 use Rattle.field.specs.Views.{frame_of, state_of}
-use Rattle.field.proofs.Accepting.{IsAnswerTo, accepted}
+use Rattle.field.proofs.Accepting.{accepted}
 
-module _ (i o : System) (f : Interior) (log : List Message) (table : List Operation) (number : ℕ) (d : Deliverable i o f log table number) where
+module _ (i o : System) (f : Interior) (log : List Message) (table : List Operation) (number : ℕ) (d : Deliverable i o f log table number)
+    (fits : in_range (numbered log number) (state_of f log table) ≡ true) where
   -- both tests, of the message itself
   tests : (m : Message) → numbered log number ≡ m
       → (numbers_fit (frame_of f).counts m ≡ true) × (operation_fits (known_in (frame_of f).counts f.begun table) (λ p. has_room (place_of table p)) m ≡ true)
-  tests m e = and_parts (numbers_fit (frame_of f).counts m) _ (subst (λ (x : Message). in_range x (state_of f log table) ≡ true) e d.within_range)
+  tests m e = and_parts (numbers_fit (frame_of f).counts m) _ (subst (λ (x : Message). in_range x (state_of f log table) ≡ true) e fits)
 
   inside : (p : ℕ) → between 1 f.begun p ≡ true → (1 ≤ p) × (p ≤ length table)
   inside p h =
@@ -44,8 +45,8 @@ module _ (i o : System) (f : Interior) (log : List Message) (table : List Operat
       let is_known = known p m t both.1 in
       record {
         begun = inside p (and_parts (between 1 f.begun p) (state_fits (frame_of f).counts p (place_of table p)) is_known).0;
-        accepts = accepted i o (frame_of f).counts d.inputs_as d.outputs_as (omega (arith, f.input_count.inside)) (omega (arith, f.output_count.inside)) d.ready.objects
-            f.begun d.few p m (place_of table) t both.0 both.1 is_known;
+        accepts = accepted i o (frame_of f).counts d.inputs_as d.outputs_as (omega (arith, f.counts.inputs.inside)) (omega (arith, f.counts.outputs.inside)) (omega (arith, f.counts.objects.inside))
+            f.begun d.ready.few p m (place_of table) t both.0 both.1 is_known;
       })
 
   -- and is handed to it

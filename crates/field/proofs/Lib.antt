@@ -5,6 +5,7 @@ pub mod Calling
 pub mod Continued
 pub mod Delivers
 pub mod EachServer
+pub mod Handing
 pub mod Opens
 pub mod Places
 pub mod Received

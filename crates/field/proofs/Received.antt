@@ -1,20 +1,19 @@
 -- What the steps of single servers come to in a field that is ready for them.
 use Rattle.std.proofs.Common.{◌≡◌, ℕ, zero, suc, ◌+◌, ◌<◌, ◌≤◌, Bool, true, ◌&&◌, ltb, List, [], ◌∷◌, map, length, get_or, set, Ok, Err, Result, IsOk, sym, refl, ap, ◌∙◌, arith}
 use Rattle.std.proofs.lemmas.List.{map-set, get_or-map}
-use Rattle.std.proofs.lemmas.Bool.{cond-true, cond-false, le-leb, le-ltb}
+use Rattle.std.proofs.lemmas.Bool.{cond-true, cond-false, le-leb, le-ltb, lt-ltb}
 use Rattle.quorum.specs.declared.refusal.Refusal.{Refusal}
 use Rattle.quorum.specs.Systems.{System}
-use Rattle.numbers.specs.declared.epoch.Epoch.{Epoch}
-use Rattle.numbers.specs.declared.time.Time.{Time}
+use Rattle.numbers.specs.Numbers.{last_epoch}
 use Rattle.numbers.specs.declared.version.Version.{Version}
 use Rattle.rules.specs.declared.kept.Ledger.{Ledger}
 use Rattle.rules.specs.declared.log.Log.{Log}
 use Rattle.rules.specs.declared.message.Message.{Message}
-use Rattle.rules.specs.declared.pairs.Pairs.{Pairs}
-use Rattle.rules.specs.declared.parts.Parts.{Parts}
+use Rattle.rules.specs.declared.pairs.Pair.{Pair}
+use Rattle.rules.specs.declared.renewal.Renewal.{Renewal}
+use Rattle.rules.specs.declared.renewal.Renewed.{Renewed}
 use Rattle.rules.specs.Calls.{quiet}
 use Rattle.rules.specs.Input.{Input, no_ledger, answers_clock, after_write, answers_write, after_renewal, answers_renewal}
-use Rattle.rules.specs.Lists.{list_of}
 use Rattle.rules.specs.Output.{Output, answers_read, after_answer, acknowledgement, after_invalidation, answers_invalidation}
 use Rattle.rules.specs.State.{no_input, post, with_input, with_output}
 use Rattle.rules.specs.Steps.{StepSaid, made_now, refused, Step, step_says, step, steps, stays, has_room, with_room}
@@ -41,29 +40,28 @@ pub clock_step_lem : (i p : ℕ) (I : Input) (made : ℕ) (log : List Message) �
     → clock_step i p I made log ≡ steps I (answers_clock i p I) made log
 clock_step_lem i p I made log h = with_room_lem I made log _ h
 
-have_epochs_lem : (ls : List Ledger) (m : ℕ) → ((j : ℕ) → j < m → (get_or ls j no_ledger).epoch.0 ≤ 65535) → have_epochs ls m ≡ true
+have_epochs_lem : (ls : List Ledger) (m : ℕ) → ((j : ℕ) → j < m → (get_or ls j no_ledger).epoch.0 < last_epoch) → have_epochs ls m ≡ true
 have_epochs_lem ls zero h = refl
 have_epochs_lem ls (suc m) h =
-    ap (λ (b : Bool). b && has_epoch ls m) (have_epochs_lem ls m (λ j l. h j (omega arith))) ∙ le-leb _ 65535 (h m (omega arith))
+    ap (λ (b : Bool). b && has_epoch ls m) (have_epochs_lem ls m (λ j l. h j (omega arith))) ∙ lt-ltb _ last_epoch (h m (omega arith))
 
 pub write_step_lem : (i p m o : ℕ) (v : Version) (x : ℕ) (I : Input) (made : ℕ) (log : List Message) → made + 9 ≤ length log
-    → ((j : ℕ) → j < m → (get_or I.ledgers j no_ledger).epoch.0 ≤ 65535)
+    → ((j : ℕ) → j < m → (get_or I.ledgers j no_ledger).epoch.0 < last_epoch)
     → write_step i p m o v x I made log ≡ steps (after_write m o v x I) (answers_write i p m o (after_write m o v x I)) made log
 write_step_lem i p m o v x I made log h e =
     with_room_lem I made log _ h ∙ cond-true (have_epochs I.ledgers m) _ _ (have_epochs_lem I.ledgers m e)
 
-pub renewal_step_lem : (i lease j : ℕ) (a : Parts) (o : ℕ) (stamp : Time) (I : Input) (made : ℕ) (log : List Message) → made + 9 ≤ length log
-    → renewal_step i lease j a o stamp I made log ≡ steps (after_renewal lease j a o I) (answers_renewal i lease j a o stamp I ∷ []) made log
-renewal_step_lem i lease j a o stamp I made log h = with_room_lem I made log _ h
+pub renewal_step_lem : (i lease j : ℕ) (r : Renewal) (I : Input) (made : ℕ) (log : List Message) → made + 9 ≤ length log
+    → renewal_step i lease j r I made log ≡ steps (after_renewal lease j r I) (answers_renewal i lease j r I) made log
+renewal_step_lem i lease j r I made log h = with_room_lem I made log _ h
 
 pub read_step_lem : (q : System) (j p o : ℕ) (O : Output) (made : ℕ) (log : List Message) → q.count ≤ 8 → made + 9 ≤ length log
     → read_step q j p o O made log ≡ steps O (answers_read q j p q.count o O) made log
 read_step_lem q j p o O made log few h = cond-false (ltb 8 q.count) _ _ (le-ltb 8 q.count few) ∙ with_room_lem O made log _ h
 
-pub answer_step_lem : (drift j i : ℕ) (a : Parts) (o : ℕ) (v : Version) (x : ℕ) (e : Epoch) (stamp : Time) (len : ℕ) (l : Pairs) (O : Output) (made : ℕ) (log : List Message)
-    → made + 9 ≤ length log
-    → answer_step drift j i a o v x e stamp len l O made log ≡ steps (after_answer drift i a o v x e stamp len (list_of l) O) (acknowledgement j i l) made log
-answer_step_lem drift j i a o v x e stamp len l O made log h = with_room_lem O made log _ h
+pub answer_step_lem : (drift j i : ℕ) (y : Renewed) (O : Output) (made : ℕ) (log : List Message) → made + 9 ≤ length log
+    → answer_step drift j i y O made log ≡ steps (after_answer drift i y O) (acknowledgement j i y.list) made log
+answer_step_lem drift j i y O made log h = with_room_lem O made log _ h
 
 pub invalidation_step_lem : (j i o : ℕ) (v : Version) (O : Output) (made : ℕ) (log : List Message) → made + 9 ≤ length log
     → invalidation_step j i o v O made log ≡ steps (after_invalidation i o v O) (answers_invalidation j i o v) made log
@@ -132,18 +130,17 @@ input_taken f log t i j y b e is = λ z. record {
 }
 
 -- a write request: no epoch is the last one, so it is taken
-pub write_passed : (f : Interior) (log : List Message) (i p o : ℕ) (v : Version) (x : ℕ) (j me b made : ℕ) (l : List Message) (d y : InputServer)
-    (r : Result (Unit {0}) Refusal) (after : Log)
-    → Ready f log → i < 8 → i < length f.inputs → j ≡ i → me ≡ i → b ≡ o → made ≡ f.made → l ≡ log
-    → write_step me p f.output_count.number b v x (input_of (get_or f.inputs j d)) made l ≡ step r (input_of y) after
-    → Passed (after_write f.output_count.number o v x (get_or (inputs_of f.inputs) i no_input))
-    (answers_write i p f.output_count.number o (after_write f.output_count.number o v x (get_or (inputs_of f.inputs) i no_input))) f.made log r (input_of y) after
-write_passed f log i p o v x j me b made l d y r after ready few inside at own same made_is log_is does =
-    let m = f.output_count.number in
-    let here = picked input_of f.inputs i j d no_input at inside in
+pub write_passed : (f : Interior) (log : List Message) (i p : ℕ) (x : Pair) (value : ℕ) (r : Result (Unit {0}) Refusal) (y : Input) (after : Log)
+    → Ready f log → i < 8
+    → write_step i p f.counts.outputs.number x.object x.version value (get_or (inputs_of f.inputs) i no_input) f.made log ≡ step r y after
+    → Passed (after_write f.counts.outputs.number x.object x.version value (get_or (inputs_of f.inputs) i no_input))
+    (answers_write i p f.counts.outputs.number x.object
+    (after_write f.counts.outputs.number x.object x.version value (get_or (inputs_of f.inputs) i no_input))) f.made log r y after
+write_passed f log i p x value r y after ready few does =
+    let m = f.counts.outputs.number in
     passed _ _ _ _ _ _ _ _
-    (write_step_lem i p m o v x (get_or (inputs_of f.inputs) i no_input) f.made log ready.room (λ k h. ready.epochs i k few (omega (arith, f.output_count.inside))))
-    (sym (λ z. write_step (own z) p m (same z) v x (here z) (made_is z) (log_is z)) ∙ does)
+    (write_step_lem i p m x.object x.version value (get_or (inputs_of f.inputs) i no_input) f.made log ready.room
+    (λ k h. ready.epochs i k few (omega (arith, f.counts.outputs.inside)))) does
 
 module _ (f : Interior) (log : List Message) (t : List Operation) (new : List Message) (r : Result (Unit {0}) Refusal) (after : Log)
     (made : ℕ) (l : List Message) (made_is : made ≡ after.made) (log_is : l ≡ after.messages.now) where

@@ -21,7 +21,6 @@ use Rattle.field.proofs.Refusing.{not_refused}
 -- ---- its numbers
 
 pub record Numbers (f : Interior) : Type 0 where
-  pub objects : f.objects ≤ 16
   pub log_most : f.log_len ≤ 65535
   pub table_most : f.table_len ≤ 1024
   pub begun : f.begun ≤ f.table_len
@@ -29,7 +28,6 @@ pub record Numbers (f : Interior) : Type 0 where
 
 numbers_prop : (f : Interior) → IsProp (Numbers f)
 numbers_prop f a b = λ k. record {
-  objects = le_prop a.objects b.objects k;
   log_most = le_prop a.log_most b.log_most k;
   table_most = le_prop a.table_most b.table_most k;
   begun = le_prop a.begun b.begun k;
@@ -39,7 +37,6 @@ numbers_prop f a b = λ k. record {
 pub numbers_of : (f : Interior) → Sound (Some f) → Numbers f
 numbers_of f s = ∥∥₁_elim s (numbers_prop f) (λ d.
     record {
-      objects = d.k.1;
       log_most = d.log_length.1;
       table_most = d.table_length.1;
       begun = d.begun;
@@ -48,7 +45,7 @@ numbers_of f s = ∥∥₁_elim s (numbers_prop f) (λ d.
 
 pub ready_of : (f : Interior) (log : List Message) → Numbers f → length log ≡ f.log_len → f.made + 9 ≤ length log → Ready f log
 ready_of f log n e h = record {
-  objects = n.objects;
+  few = omega (arith, n.begun, n.table_most);
   room = h;
   epochs = λ i j a b. let z = n.epochs i j a b in let y = n.log_most in omega arith;
 }

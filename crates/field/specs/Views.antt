@@ -8,6 +8,7 @@ use Rattle.input_server.specs.declared.server.InputServer.{InputServer}
 use Rattle.input_server.specs.Views.{input_of}
 use Rattle.output_server.specs.declared.server.OutputServer.{OutputServer}
 use Rattle.output_server.specs.Views.{output_of}
+use Rattle.rules.specs.Counts.{counts_of}
 use Rattle.rules.specs.Input.{Input}
 use Rattle.rules.specs.Output.{Output}
 use Rattle.field.specs.declared.interior.Interior.{Interior}
@@ -22,7 +23,7 @@ outputs_of servers = map output_of servers
 abbrev pub frame_of : Interior → Frame
 frame_of f = record {
   is_open = true;
-  counts = record { n = f.input_count.number; m = f.output_count.number; k = f.objects };
+  counts = counts_of f.counts;
   lease = f.lease.micros;
   drift = f.drift.thousandths;
   log_length = f.log_len;

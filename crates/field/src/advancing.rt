@@ -27,7 +27,7 @@ impl Interior {
         ensures same { is_ok result ≡ false → self.new ≡ self.old }
     {
         self.check_increments(log, table, systems, increments)?;
-        let (of_inputs, of_outputs) = increments.split_at(self.input_count.index());
+        let (of_inputs, of_outputs) = increments.split_at(self.counts.inputs.index());
         if !all_stay(&self.inputs, of_inputs) || !all_stay(&self.outputs, of_outputs) {
             return Err(Refusal::PastLastTime);
         }
@@ -52,7 +52,7 @@ impl Interior {
         if !self.is_as_opened(log, table, systems) {
             return Err(Refusal::NotAsOpened);
         }
-        if increments.len() != self.input_count.index() + self.output_count.index() {
+        if increments.len() != self.counts.inputs.index() + self.counts.outputs.index() {
             return Err(Refusal::IncrementCount);
         }
         Ok(())

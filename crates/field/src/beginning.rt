@@ -35,7 +35,7 @@ impl Interior {
         let operation = self.begun + 1;
         let write = AskingWrite::new(operation, object as u8, value);
         self.enter(table, Operation::Asking(write));
-        self.log_all(log, &ClockQuestions { operation }, self.input_count);
+        self.log_all(log, &ClockQuestions { operation }, self.counts.inputs);
         Ok(operation)
     }
 
@@ -61,7 +61,7 @@ impl Interior {
             object: object as u8,
         };
         self.enter(table, Operation::Reading(read));
-        self.log_all(log, &requests, self.output_count);
+        self.log_all(log, &requests, self.counts.outputs);
         Ok(operation)
     }
 
@@ -78,7 +78,7 @@ impl Interior {
         if !self.is_as_opened(log, table, systems) {
             return Err(Refusal::NotAsOpened);
         }
-        if object >= self.objects as u64 {
+        if object >= self.counts.objects.get() as u64 {
             return Err(Refusal::NoSuchObject);
         }
         if self.begun as usize >= table.len() {

@@ -1,7 +1,7 @@
 // Delivering a message.
-ghost use Rattle.std.specs.Prelude.{Some, ◌≡◌, false, is_ok};
-ghost use Rattle.rules.specs.Answers.{end_of, delivery_says};
-ghost use Rattle.rules.specs.Calls.{receives, delivering};
+ghost use Rattle.std.specs.Prelude.{Some, ◌≡◌, false, is_ok, OnErr};
+ghost use Rattle.rules.specs.Answers.{delivery_says};
+ghost use Rattle.rules.specs.Calls.{hands_over, delivering};
 ghost use Rattle.rules.specs.State.{outcome};
 ghost use Rattle.field.specs.Checked.{delivery_check};
 ghost use Rattle.field.specs.Delivered.{numbered, Deliverable};
@@ -12,11 +12,11 @@ ghost use Rattle.field.specs.Views.{state_of};
 use crate::interior::Interior;
 use operation::Operation;
 use quorum::{QuorumSystem, Refusal, Systems};
-use rules::{Delivery, Message, has_room};
+use rules::{Delivery, Message, Pair, has_room};
 
 impl Interior {
     // Tests the delivery, and then hands the message on.
-    #[tactic(auto, using(crate::proofs::Calling::delivery_passed, crate::proofs::Calling::delivery_refuses, crate::proofs::Calling::delivery_out_of_range, crate::proofs::Calling::deliverable, crate::proofs::Calling::begun_in_table))]
+    #[tactic(auto, using(crate::proofs::Calling::delivery_refuses))]
     pub(crate) fn deliver<I: QuorumSystem, O: QuorumSystem>(
         &mut self,
         log: &mut [Message],
@@ -29,10 +29,7 @@ impl Interior {
         ensures same { is_ok result ≡ false → (self.new ≡ self.old) × (log.new ≡ log.old) × (table.new ≡ table.old) }
     {
         self.check_message(log, table, systems, number)?;
-        if !self.is_in_range(&log[number - 1], table) {
-            return Err(Refusal::OutOfRange);
-        }
-        Ok(self.receive(log, table, systems, number))
+        self.hand_over(log, table, systems, number)
     }
 
     // The first refusal that a delivery meets before it looks at its message.
@@ -57,25 +54,22 @@ impl Interior {
         Ok(())
     }
 
-    // The message is handed to the server or the operation that it is for, kind by kind: all that it
-    // carries is handed on, so all is named.
-    fn receive<I: QuorumSystem, O: QuorumSystem>(
+    // The message is handed to the server or the operation that it is for, kind by kind. Each tests the
+    // numbers of the message, and refuses 33 where one is out of range.
+    fn hand_over<I: QuorumSystem, O: QuorumSystem>(
         &mut self,
         log: &mut [Message],
         table: &mut [Operation],
         systems: &Systems<I, O>,
         number: usize,
-    ) -> Delivery
+    ) -> Result<Delivery, Refusal>
         requires { Deliverable (I.QuorumSystem.meaning systems.now.inputs) (O.QuorumSystem.meaning systems.now.outputs) self.old log.old table.old number }
-        ensures { receives (I.QuorumSystem.meaning systems.now.inputs) (O.QuorumSystem.meaning systems.now.outputs) (numbered log.old number) (state_of self.old log.old table.old) ≡ outcome (end_of result) (state_of self.new log.new table.new) }
+        ensures does { hands_over (I.QuorumSystem.meaning systems.now.inputs) (O.QuorumSystem.meaning systems.now.outputs) (numbered log.old number) (state_of self.old log.old table.old) ≡ outcome (delivery_says result) (state_of self.new log.new table.new) }
+        ensures same { OnErr result ((self.new ≡ self.old) × (log.new ≡ log.old) × (table.new ≡ table.old)) }
     {
         match log[number - 1] {
             Message::ClockQuestion { operation, input } => {
-                self.take_clock_question(log, operation, input);
-            }
-            // an arm for each answer: the check does not cover an arm of several patterns here yet
-            Message::ClockAnswer { operation, .. } => {
-                return self.hear(log, table, systems, number, operation);
+                self.take_clock_question(log, table, operation, input)?;
             }
             Message::WriteRequest {
                 operation,
@@ -83,51 +77,47 @@ impl Interior {
                 object,
                 version,
                 value,
-            } => self.take_write_request(log, operation, input, object, version, value),
+            } => {
+                let pair = Pair { object, version };
+                self.take_write_request(log, table, operation, input, pair, value)?;
+            }
             Message::ReadRequest {
                 operation,
                 output,
                 object,
-            } => self.take_read_request(log, &systems.inputs, operation, output, object),
+            } => self.take_read_request(log, table, &systems.inputs, operation, output, object)?,
+            Message::RenewalRequest {
+                output,
+                input,
+                renewal,
+            } => self.take_renewal_request(log, output, input, renewal)?,
+            Message::RenewalAnswer {
+                input,
+                output,
+                renewed,
+            } => self.take_renewal_answer(log, input, output, renewed)?,
+            Message::Invalidation {
+                input,
+                output,
+                object,
+                version,
+            } => self.take_invalidation(log, input, output, Pair { object, version })?,
+            Message::InvalidationAnswer {
+                output,
+                input,
+                list,
+            } => self.take_invalidation_answer(output, input, list)?,
+            // an arm for each answer: the check does not cover an arm of several patterns here yet
+            Message::ClockAnswer { operation, .. } => {
+                return self.hear(log, table, systems, number, operation);
+            }
             Message::WriteAnswer { operation, .. } => {
                 return self.hear(log, table, systems, number, operation);
             }
             Message::ReadAnswer { operation, .. } => {
                 return self.hear(log, table, systems, number, operation);
             }
-            Message::RenewalRequest {
-                output,
-                input,
-                parts,
-                object,
-                stamp,
-            } => self.take_renewal_request(log, output, input, parts, object, stamp),
-            Message::RenewalAnswer {
-                input,
-                output,
-                parts,
-                object,
-                version,
-                value,
-                epoch,
-                stamp,
-                length,
-                list,
-            } => self.take_renewal_answer(
-                log, input, output, parts, object, version, value, epoch, stamp, length, list,
-            ),
-            Message::Invalidation {
-                input,
-                output,
-                object,
-                version,
-            } => self.take_invalidation(log, input, output, object, version),
-            Message::InvalidationAnswer {
-                output,
-                input,
-                list,
-            } => self.take_invalidation_answer(output, input, list),
         }
-        Delivery::NothingEnded
+        Ok(Delivery::NothingEnded)
     }
 }

@@ -1,7 +1,7 @@
 use input_server::InputServer;
-use numbers::{Drift, LeaseLength, ServerCount};
+use numbers::{Drift, LeaseLength};
 use output_server::OutputServer;
-use rules::SERVERS;
+use rules::{Counts, SERVERS};
 
 // What an open field keeps. That its numbers are in range is an invariant of the field around it: a
 // call changes one after the other, and all are in range when it ends. A step asks for those that it
@@ -9,9 +9,7 @@ use rules::SERVERS;
 #[derive(Drop)]
 pub(crate) struct Interior {
     // what opening fixes
-    pub(crate) input_count: ServerCount,
-    pub(crate) output_count: ServerCount,
-    pub(crate) objects: u8,
+    pub(crate) counts: Counts,
     pub(crate) lease: LeaseLength,
     pub(crate) drift: Drift,
     pub(crate) log_len: usize,

@@ -20,7 +20,7 @@ impl Interior {
     {
         log.len() == self.log_len
             && table.len() == self.table_len
-            && systems.inputs.count() == self.input_count.get()
-            && systems.outputs.count() == self.output_count.get()
+            && systems.inputs.count() == self.counts.inputs.get()
+            && systems.outputs.count() == self.counts.outputs.get()
     }
 }

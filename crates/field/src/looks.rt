@@ -21,7 +21,7 @@ impl Field {
     {
         self.interior
             .as_ref()
-            .map_or(0, |interior| interior.input_count.get())
+            .map_or(0, |interior| interior.counts.inputs.get())
     }
 
     pub fn output_servers(&self) -> u8
@@ -29,7 +29,7 @@ impl Field {
     {
         self.interior
             .as_ref()
-            .map_or(0, |interior| interior.output_count.get())
+            .map_or(0, |interior| interior.counts.outputs.get())
     }
 
     pub fn objects(&self) -> u8
@@ -37,7 +37,7 @@ impl Field {
     {
         self.interior
             .as_ref()
-            .map_or(0, |interior| interior.objects)
+            .map_or(0, |interior| interior.counts.objects.get())
     }
 
     // How many messages were made: the highest number that can be delivered.
@@ -58,7 +58,7 @@ impl Field {
         ensures { result ≡ input_clock (field_of self.now.interior [] []) number }
     {
         let interior = self.interior.as_ref()?;
-        clock_at(&interior.inputs, interior.input_count, number)
+        clock_at(&interior.inputs, interior.counts.inputs, number)
     }
 
     // The clock of the output server with that number, if there is one.
@@ -66,6 +66,6 @@ impl Field {
         ensures { result ≡ output_clock (field_of self.now.interior [] []) number }
     {
         let interior = self.interior.as_ref()?;
-        clock_at(&interior.outputs, interior.output_count, number)
+        clock_at(&interior.outputs, interior.counts.outputs, number)
     }
 }

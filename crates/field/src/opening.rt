@@ -7,7 +7,8 @@ ghost use Rattle.field.specs.Views.{inputs_of, outputs_of, frame_of};
 use crate::interior::Interior;
 use crate::sides::start;
 use checks::Opening;
-use numbers::{Drift, LeaseLength, ServerCount, Time};
+use numbers::{Drift, LeaseLength, ObjectCount, ServerCount, Time};
+use rules::Counts;
 
 impl Interior {
     // Every server begins in its first state, with its start clock. It is handed what the tests of an
@@ -27,9 +28,11 @@ impl Interior {
         ensures outputs { outputs_of result.outputs ≡ first_outputs (drop n clocks.now) }
     {
         Interior {
-            input_count: ServerCount::try_from(n).unwrap(),
-            output_count: ServerCount::try_from(m).unwrap(),
-            objects: opening.objects as u8,
+            counts: Counts {
+                inputs: ServerCount::try_from(n).unwrap(),
+                outputs: ServerCount::try_from(m).unwrap(),
+                objects: ObjectCount::try_from(opening.objects as u8).unwrap(),
+            },
             lease: LeaseLength::try_from(opening.lease).unwrap(),
             drift: Drift::try_from(opening.drift).unwrap(),
             log_len,

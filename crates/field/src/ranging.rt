@@ -1,35 +1,45 @@
 // Whether a message in the log, and the operation that it names, are in range. That the operations
 // begun lie in the table is asked and not kept in a value: the table is lent anew with each call.
 ghost use Rattle.std.specs.Prelude.{◌≡◌, ◌<◌, ◌≤◌, ◌&&◌, List, length};
-ghost use Rattle.operation.specs.Counts.{counts_of};
+ghost use Rattle.rules.specs.Counts.{counts_of};
 ghost use Rattle.rules.specs.declared.message.Message.{Message as AnyMessage};
-ghost use Rattle.numbers.specs.Numbers.{between};
+ghost use Rattle.numbers.specs.Numbers.{between, last_operation};
 ghost use Rattle.rules.specs.Calls.{in_range};
-ghost use Rattle.rules.specs.Ranges.{operation_fits, state_fits, has_room};
+ghost use Rattle.rules.specs.Ranges.{operation_fits, state_fits, has_room, TestsRange};
 ghost use Rattle.field.specs.Ranging.{place_of, known_in};
 ghost use Rattle.field.specs.Views.{frame_of, state_of};
 
 use crate::interior::Interior;
-use numbers::{Kind, Number};
-use operation::{Counts, Operation};
-use rules::Message;
+use numbers::OperationNumber;
+use operation::Operation;
+use quorum::Refusal;
+use rules::{Counts, Message};
 
 impl Interior {
-    fn counts(&self) -> Counts
-        ensures { counts_of result ≡ (frame_of self.now).counts }
-    {
-        Counts {
-            inputs: self.input_count.get(),
-            outputs: self.output_count.get(),
-            objects: self.objects,
+    // The operation with that number, if it is begun and its state is in range. Refuses 33 otherwise.
+    pub(crate) fn known(
+        &self,
+        table: &[Operation],
+        operation: u16,
+    ) -> Result<OperationNumber, Refusal>
+        requires few { self.now.begun ≤ last_operation }
+        requires begun { self.now.begun ≤ length table.now }
+        ensures {
+            TestsRange (λ p. p.number)
+                (known_in (frame_of self.now).counts self.now.begun table.now operation) operation result
         }
+    {
+        if !self.knows(table, operation) {
+            return Err(Refusal::OutOfRange);
+        }
+        OperationNumber::try_from(operation).map_err(|_| Refusal::OutOfRange)
     }
 
     pub(crate) fn is_in_range(&self, message: &Message, table: &[Operation]) -> bool
         requires { self.now.begun ≤ length table.now }
         ensures { (log : List AnyMessage) → result ≡ in_range message.now (state_of self.now log table.now) }
     {
-        self.counts().fit(message) && self.has_operation(message, table)
+        self.counts.fit(message) && self.has_operation(message, table)
     }
 
     // The operation that the message names, if it is of a kind that names one. It reads as `State::is_named`,
@@ -52,7 +62,7 @@ impl Interior {
         requires { self.now.begun ≤ length table.now }
         ensures { result ≡ known_in (frame_of self.now).counts self.now.begun table.now operation }
     {
-        self.is_begun(operation) && state_fits(table, self.counts(), operation)
+        self.is_begun(operation) && state_fits(table, self.counts, operation)
     }
 
     fn is_begun(&self, operation: u16) -> bool
@@ -82,12 +92,4 @@ fn leaves_room(table: &[Operation], operation: u16) -> bool
     ensures { result ≡ has_room (place_of table.now operation) }
 {
     table[operation as usize - 1].has_room()
-}
-
-// A number that is known to be in the range of its kind.
-pub(crate) fn numbered<K: Kind>(number: u8) -> Number<K>
-    requires { number < K.LIMIT }
-    ensures { result.number ≡ number }
-{
-    Number::try_from(number).unwrap()
 }

@@ -64,8 +64,8 @@ news_of P (hears (WriteRequest p i o v x)) W = answers_write i p P.counts.m o (a
 news_of P (hears (WriteAnswer i p t)) W = (reaction P (WriteAnswer i p t) (W.op p)).sends
 news_of P (hears (ReadRequest p j o)) W = answers_read P.inputs j p P.counts.n o (W.out j)
 news_of P (hears (ReadAnswer j p v x)) W = (reaction P (ReadAnswer j p v x) (W.op p)).sends
-news_of P (hears (RenewalRequest j i a o stamp)) W = answers_renewal i P.lease j a o stamp (W.inp i) ∷ []
-news_of P (hears (RenewalAnswer i j a o v x e stamp len l)) W = acknowledgement j i l
+news_of P (hears (RenewalRequest j i r)) W = answers_renewal i P.lease j r (W.inp i)
+news_of P (hears (RenewalAnswer i j y)) W = acknowledgement j i y.list
 news_of P (hears (Invalidation i j o v)) W = answers_invalidation j i o v
 news_of P (hears (InvalidationAnswer j i l)) W = []
 
@@ -243,12 +243,12 @@ module _ (inputs outputs : System) (s : State) (f : Framed s) (room : s.made + 9
         (let z = Outs.read_length inputs j p s.frame.counts.n o (output_at s j) small.n_pos in let y = small.n_most in omega arith) refl
         refl (at_back j (output_at s)) refl refl refl refl refl
     receives_accepted (ReadAnswer j p v x) h n o = reacts_accepted (ReadAnswer j p v x) p (h, n) o refl refl refl
-    receives_accepted (RenewalRequest j i a o stamp) h n k = input_accepted (hears (RenewalRequest j i a o stamp)) i
-        (after_renewal s.frame.lease j a o (input_at s i)) (answers_renewal i s.frame.lease j a o stamp (input_at s i) ∷ []) (h, n)
-        (in8 i (fits_renewal s.frame.counts j i a o stamp n).input) (omega arith) refl refl refl
-    receives_accepted (RenewalAnswer i j a o v x e stamp len l) h n k = output_accepted (hears (RenewalAnswer i j a o v x e stamp len l)) j
-        (after_answer s.frame.drift i a o v x e stamp len (list_of l) (output_at s j)) (acknowledgement j i l) (h, n)
-        (out8 j (fits_renewed s.frame.counts i j a o v x e stamp len l n).output) (let z = Outs.ack_length j i l in omega arith) refl refl refl
+    receives_accepted (RenewalRequest j i r) h n k = input_accepted (hears (RenewalRequest j i r)) i
+        (after_renewal s.frame.lease j r (input_at s i)) (answers_renewal i s.frame.lease j r (input_at s i)) (h, n)
+        (in8 i (fits_renewal s.frame.counts j i r n).input) (omega arith) refl refl refl
+    receives_accepted (RenewalAnswer i j y) h n k = output_accepted (hears (RenewalAnswer i j y)) j
+        (after_answer s.frame.drift i y (output_at s j)) (acknowledgement j i y.list) (h, n)
+        (out8 j (fits_renewed s.frame.counts i j y n).output) (let z = Outs.ack_length j i y.list in omega arith) refl refl refl
     receives_accepted (Invalidation i j o v) h n k = output_accepted (hears (Invalidation i j o v)) j
         (after_invalidation i o v (output_at s j)) (answers_invalidation j i o v) (h, n)
         (out8 j (fits_invalidation s.frame.counts i j o v n).output) (omega arith) refl refl refl

@@ -233,8 +233,8 @@ Told I i m o (WriteRequest p k q v x) = Unit {0}
 Told I i m o (WriteAnswer k p t) = Unit {0}
 Told I i m o (ReadRequest p j q) = Unit {0}
 Told I i m o (ReadAnswer j p v x) = Unit {0}
-Told I i m o (RenewalRequest j k a q stamp) = Unit {0}
-Told I i m o (RenewalAnswer k j a q v x e stamp len l) = Unit {0}
+Told I i m o (RenewalRequest j k r) = Unit {0}
+Told I i m o (RenewalAnswer k j y) = Unit {0}
 Told I i m o (Invalidation k j q v) = (k ≡ i) × (j < m) × (q ≡ o) × (v ≡ (held I o).version) × (is_shut_out I o j ≡ false)
 Told I i m o (InvalidationAnswer j k l) = Unit {0}
 
@@ -260,8 +260,8 @@ Named I i p m o (WriteAnswer k q t) =
     (k ≡ i) × (q ≡ p) × ((j : ℕ) → j < m → has t.0 j ≡ is_shut_out I o j) × ((j : ℕ) → m ≤ j → has t.0 j ≡ false)
 Named I i p m o (ReadRequest q j b) = Unit {0}
 Named I i p m o (ReadAnswer j q v x) = Unit {0}
-Named I i p m o (RenewalRequest j k a b stamp) = Unit {0}
-Named I i p m o (RenewalAnswer k j a b v x e stamp len l) = Unit {0}
+Named I i p m o (RenewalRequest j k r) = Unit {0}
+Named I i p m o (RenewalAnswer k j y) = Unit {0}
 Named I i p m o (Invalidation k j b v) = Unit {0}
 Named I i p m o (InvalidationAnswer j k l) = Unit {0}
 

@@ -147,8 +147,8 @@ module _ (inputs outputs : System) (s : State) (f : Framed s) (small : Small (pa
   deliver_step number = when_open_lem a _
       (cond_both (eqb number 0 || ltb s.made number) (refuse 31 s) _ (λ (z : Outcome). Stepped P s a z) (λ _. no P s a 31)
       (λ h1. cond_both (not (has_nine s)) (refuse 32 s) _ (λ (z : Outcome). Stepped P s a z) (λ _. no P s a 32)
-      (λ h2. cond_both (not (in_range (message_at s number) s)) (refuse 33 s) _ (λ (z : Outcome). Stepped P s a z) (λ _. no P s a 33)
-      (λ h3. inr (ok h1 (not-false _ h2) (not-false _ h3))))))
+      (λ h2. cond_both (in_range (message_at s number) s) (receives inputs outputs (message_at s number) s) (refuse 33 s) (λ (z : Outcome). Stepped P s a z)
+      (λ h3. inr (ok h1 (not-false _ h2) h3)) (λ _. no P s a 33))))
     where
       a : Act
       a = act_of s (to_deliver number)

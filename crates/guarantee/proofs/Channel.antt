@@ -44,10 +44,11 @@ Says i j p (WriteRequest q k o v x) = ⊥
 Says i j p (WriteAnswer k q s) = ⊥
 Says i j p (ReadRequest q k o) = ⊥
 Says i j p (ReadAnswer k q v x) = ⊥
-Says i j p (RenewalRequest b a w o s) = (a ≡ i) × (b ≡ j) × (asks_volume w ≡ true) × IsAsked s.0 p
-Says i j p (RenewalAnswer a b w o v x e s l ps) =
+Says i j p (RenewalRequest b a r) = (a ≡ i) × (b ≡ j) × (asks_volume r.parts ≡ true) × IsAsked r.stamp.0 p
+Says i j p (RenewalAnswer a b y) =
     (a ≡ i) × (b ≡ j)
-    × (((asks_object w ≡ true) × IsCopy o v.0 e.0 p) ⊎ ((asks_volume w ≡ true) × (1 ≤ l) × IsLease s.0 l e.0 (list_of ps) p))
+    × (((asks_object y.renewal.parts ≡ true) × IsCopy y.renewal.object y.version.0 y.epoch.0 p)
+    ⊎ ((asks_volume y.renewal.parts ≡ true) × (1 ≤ y.length) × IsLease y.renewal.stamp.0 y.length y.epoch.0 (list_of y.list) p))
 Says i j p (Invalidation a b o v) = ⊥
 Says i j p (InvalidationAnswer b a ps) = (a ≡ i) × (b ≡ j) × IsAnswer (list_of ps) p
 

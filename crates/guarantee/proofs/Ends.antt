@@ -148,10 +148,10 @@ module _ (P : Params) (W : World) (p i o : ℕ) (v : Version) (x : ℕ) where
   gets_version_lem (hears (WriteRequest q k z u y)) h = absurd (nowhere _
       (Ins.names3 NoRequest k q P.counts.m z (after_write P.counts.m z u y (W.inp k)) (λ _. tt) tt) h)
   gets_version_lem (hears (WriteAnswer k q t)) h = reaction_gets (WriteAnswer k q t) (W.op q) refl h
-  gets_version_lem (hears (ReadRequest q j z)) h = absurd (nowhere _ (Outs.read_all P.inputs j q P.counts.n z (W.out j) NoRequest (λ _. tt) (λ _ _ _. tt)) h)
+  gets_version_lem (hears (ReadRequest q j z)) h = absurd (nowhere _ (Outs.read_all P.inputs j q P.counts.n z (W.out j) NoRequest (λ _. tt) (λ _ _. tt)) h)
   gets_version_lem (hears (ReadAnswer j q u y)) h = reaction_gets (ReadAnswer j q u y) (W.op q) refl h
-  gets_version_lem (hears (RenewalRequest j k a z stamp)) h = elim h [ inl f ↦ never (cc) | inr f ↦ absurd f ]
-  gets_version_lem (hears (RenewalAnswer k j a z u y e stamp len l)) h = absurd (nowhere _ (Outs.ack_all NoRequest j k l tt) h)
+  gets_version_lem (hears (RenewalRequest j k r)) h = elim h [ inl f ↦ never (cc) | inr f ↦ absurd f ]
+  gets_version_lem (hears (RenewalAnswer k j y)) h = absurd (nowhere _ (Outs.ack_all NoRequest j k y.list tt) h)
   gets_version_lem (hears (Invalidation k j z u)) h = elim h [ inl f ↦ never (cc) | inr f ↦ absurd f ]
   gets_version_lem (hears (InvalidationAnswer j k l)) h = absurd h
 
@@ -185,10 +185,10 @@ module _ (P : Params) (W : World) (p j o : ℕ) where
   asks_read (hears (WriteRequest q k z u y)) h = absurd (unasked _
       (Ins.names3 NoAsking k q P.counts.m z (after_write P.counts.m z u y (W.inp k)) (λ _. tt) tt) h)
   asks_read (hears (WriteAnswer k q t)) h = absurd (reaction_asks_none (WriteAnswer k q t) (W.op q) h)
-  asks_read (hears (ReadRequest q c z)) h = absurd (unasked _ (Outs.read_all P.inputs c q P.counts.n z (W.out c) NoAsking (λ _. tt) (λ _ _ _. tt)) h)
+  asks_read (hears (ReadRequest q c z)) h = absurd (unasked _ (Outs.read_all P.inputs c q P.counts.n z (W.out c) NoAsking (λ _. tt) (λ _ _. tt)) h)
   asks_read (hears (ReadAnswer c q u y)) h = absurd (reaction_asks_none (ReadAnswer c q u y) (W.op q) h)
-  asks_read (hears (RenewalRequest c k a z stamp)) h = elim h [ inl f ↦ never (cc) | inr f ↦ absurd f ]
-  asks_read (hears (RenewalAnswer k c a z u y e stamp len l)) h = absurd (unasked _ (Outs.ack_all NoAsking c k l tt) h)
+  asks_read (hears (RenewalRequest c k r)) h = elim h [ inl f ↦ never (cc) | inr f ↦ absurd f ]
+  asks_read (hears (RenewalAnswer k c y)) h = absurd (unasked _ (Outs.ack_all NoAsking c k y.list tt) h)
   asks_read (hears (Invalidation k c z u)) h = elim h [ inl f ↦ never (cc) | inr f ↦ absurd f ]
   asks_read (hears (InvalidationAnswer c k l)) h = absurd h
 

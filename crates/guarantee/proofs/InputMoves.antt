@@ -9,6 +9,7 @@ use Rattle.rules.specs.declared.kept.Ledger.{Ledger}
 use Rattle.rules.specs.declared.message.Message.{Message}
 use Rattle.rules.specs.declared.message.Message.TheVariants.{WriteAnswer, RenewalRequest, Invalidation, InvalidationAnswer}
 use Rattle.rules.specs.declared.parts.Parts.{Parts}
+use Rattle.rules.specs.declared.renewal.Renewal.{Renewal}
 use Rattle.rules.specs.declared.pairs.Pair.{Pair}
 use Rattle.rules.specs.declared.pairs.Pairs.{Pairs}
 use Rattle.numbers.specs.declared.time.Time.{Time}
@@ -661,23 +662,23 @@ given_out h = record { version = h.version; value = h.value; given = h.version }
 abbrev leased : ℕ → ℕ → Input → Ledger
 leased L b I = record { acked = (ledger I b).acked; epoch = (ledger I b).epoch; until = record { 0 = I.clock.0 + L } }
 
-module _ (L b : ℕ) (a : Parts) (o : ℕ) (I : Input) where
+module _ (L b : ℕ) (r : Renewal) (I : Input) where
   -- each object is as it was, or it is the one given
-  object_from : (p : ℕ) → (held (after_renewal L b a o I) p ≡ held I p) ⊎ ((o ≡ p) × (held (after_renewal L b a o I) p ≡ given_out (held I o)))
-  object_from p = cond_both (asks_object a) (set I.objects o (given_out (held I o))) I.objects
-      (λ (l : List Held). (get_or l p no_held ≡ held I p) ⊎ ((o ≡ p) × (get_or l p no_held ≡ given_out (held I o))))
-      (λ _. set_from I.objects o p (given_out (held I o)) no_held) (λ _. inl refl)
+  object_from : (p : ℕ) → (held (after_renewal L b r I) p ≡ held I p) ⊎ ((r.object ≡ p) × (held (after_renewal L b r I) p ≡ given_out (held I r.object)))
+  object_from p = cond_both (asks_object r.parts) (set I.objects r.object (given_out (held I r.object))) I.objects
+      (λ (l : List Held). (get_or l p no_held ≡ held I p) ⊎ ((r.object ≡ p) × (get_or l p no_held ≡ given_out (held I r.object))))
+      (λ _. set_from I.objects r.object p (given_out (held I r.object)) no_held) (λ _. inl refl)
 
   -- each ledger is as it was, or it is that of b with a new lease
-  lease_from : (j : ℕ) → (ledger (after_renewal L b a o I) j ≡ ledger I j)
-      ⊎ ((b ≡ j) × (ledger (after_renewal L b a o I) j ≡ leased L b I))
-  lease_from j = cond_both (grants a b I) (set I.ledgers b (leased L b I)) I.ledgers
+  lease_from : (j : ℕ) → (ledger (after_renewal L b r I) j ≡ ledger I j)
+      ⊎ ((b ≡ j) × (ledger (after_renewal L b r I) j ≡ leased L b I))
+  lease_from j = cond_both (grants r.parts b I) (set I.ledgers b (leased L b I)) I.ledgers
       (λ (l : List Ledger). (get_or l j no_ledger ≡ ledger I j) ⊎ ((b ≡ j) × (get_or l j no_ledger ≡ leased L b I)))
       (λ _. set_from I.ledgers b j (leased L b I) no_ledger) (λ _. inl refl)
 
   -- version and value of every object stay
   pub held7 : (p : ℕ) →
-      ((held (after_renewal L b a o I) p).version ≡ (held I p).version) × ((held (after_renewal L b a o I) p).value ≡ (held I p).value)
+      ((held (after_renewal L b r I) p).version ≡ (held I p).version) × ((held (after_renewal L b r I) p).value ≡ (held I p).value)
   held7 p = elim (object_from p) [
     | inl e ↦ (ap (λ (h : Held). h.version) e, ap (λ (h : Held). h.value) e)
     | inr e ↦ (
@@ -687,12 +688,12 @@ module _ (L b : ℕ) (a : Parts) (o : ℕ) (I : Input) where
   ]
 
   -- so their clocks stay at most lc
-  pub lc7 : Clocked I → Clocked (after_renewal L b a o I)
+  pub lc7 : Clocked I → Clocked (after_renewal L b r I)
   lc7 c p = omega (arith, c p, ap number (held7 p).0)
 
   -- what was given of an object stays, or becomes the version held
   pub given7 : (j p : ℕ) →
-      (last_read (after_renewal L b a o I) j p ≡ last_read I j p) ⊎ (last_read (after_renewal L b a o I) j p ≡ (held I p).version.0)
+      (last_read (after_renewal L b r I) j p ≡ last_read I j p) ⊎ (last_read (after_renewal L b r I) j p ≡ (held I p).version.0)
   given7 j p = elim (object_from p) [
     | inl e ↦ inl (ap given_number e)
     | inr e ↦ inr (ap given_number e.1 ∙ ap (λ (k : ℕ). (held I k).version.0) e.0)
@@ -700,22 +701,22 @@ module _ (L b : ℕ) (a : Parts) (o : ℕ) (I : Input) where
 
   -- it does not fall, if it is not above the version held
   pub given_up7 : (j p : ℕ) → last_read I j p ≤ (held I p).version.0 →
-      (last_read I j p ≤ last_read (after_renewal L b a o I) j p)
-      × (last_read (after_renewal L b a o I) j p ≤ (held (after_renewal L b a o I) p).version.0)
+      (last_read I j p ≤ last_read (after_renewal L b r I) j p)
+      × (last_read (after_renewal L b r I) j p ≤ (held (after_renewal L b r I) p).version.0)
   given_up7 j p h = let u = ap number (held7 p).0 in
       elim (given7 j p) [ inl e ↦ (omega arith, omega arith) | inr e ↦ (omega arith, omega arith) ]
 
   -- what is acknowledged stays, and every epoch
-  pub ackeds7 : (j : ℕ) → (ledger (after_renewal L b a o I) j).acked ≡ (ledger I j).acked
+  pub ackeds7 : (j : ℕ) → (ledger (after_renewal L b r I) j).acked ≡ (ledger I j).acked
   ackeds7 j = elim (lease_from j) [
     | inl e ↦ ap the_acked e
     | inr e ↦ ap the_acked e.1 ∙ ap (λ (k : ℕ). (ledger I k).acked) e.0
   ]
 
-  pub acked7 : (j p : ℕ) → last_ack (after_renewal L b a o I) j p ≡ last_ack I j p
+  pub acked7 : (j p : ℕ) → last_ack (after_renewal L b r I) j p ≡ last_ack I j p
   acked7 j p = ap (λ (l : List Version). (get_or l p none).0) (ackeds7 j)
 
-  pub epoch7 : (j : ℕ) → (ledger (after_renewal L b a o I) j).epoch ≡ (ledger I j).epoch
+  pub epoch7 : (j : ℕ) → (ledger (after_renewal L b r I) j).epoch ≡ (ledger I j).epoch
   epoch7 j = elim (lease_from j) [
     | inl e ↦ ap the_epoch e
     | inr e ↦ ap the_epoch e.1 ∙ ap (λ (k : ℕ). (ledger I k).epoch) e.0
@@ -723,33 +724,33 @@ module _ (L b : ℕ) (a : Parts) (o : ℕ) (I : Input) where
 
   -- a lease's end stays, or is the server's clock and the lease length
   pub until7 : (j : ℕ) →
-      ((ledger (after_renewal L b a o I) j).until ≡ (ledger I j).until) ⊎ ((ledger (after_renewal L b a o I) j).until.0 ≡ I.clock.0 + L)
+      ((ledger (after_renewal L b r I) j).until ≡ (ledger I j).until) ⊎ ((ledger (after_renewal L b r I) j).until.0 ≡ I.clock.0 + L)
   until7 j = elim (lease_from j) [ inl e ↦ inl (ap the_until e) | inr e ↦ inr (ap (λ (l : Ledger). l.until.0) e.1) ]
 
-  pub until7_other : (j : ℕ) → (b ≡ j → ⊥) → (ledger (after_renewal L b a o I) j).until ≡ (ledger I j).until
+  pub until7_other : (j : ℕ) → (b ≡ j → ⊥) → (ledger (after_renewal L b r I) j).until ≡ (ledger I j).until
   until7_other j n = elim (lease_from j) [ inl e ↦ ap the_until e | inr e ↦ absurd (n e.0) ]
 
   -- the lists keep their lengths
-  pub shape7 : InputShape I → InputShape (after_renewal L b a o I)
+  pub shape7 : InputShape I → InputShape (after_renewal L b r I)
   shape7 s = record {
-    objects = cond_both (asks_object a) (set I.objects o (given_out (held I o))) I.objects (λ (l : List Held). length l ≡ 16)
-        (λ _. length-set I.objects o (given_out (held I o)) ∙ s.objects) (λ _. s.objects);
-    ledgers = cond_both (grants a b I) (set I.ledgers b (leased L b I)) I.ledgers (λ (l : List Ledger). length l ≡ 8)
+    objects = cond_both (asks_object r.parts) (set I.objects r.object (given_out (held I r.object))) I.objects (λ (l : List Held). length l ≡ 16)
+        (λ _. length-set I.objects r.object (given_out (held I r.object)) ∙ s.objects) (λ _. s.objects);
+    ledgers = cond_both (grants r.parts b I) (set I.ledgers b (leased L b I)) I.ledgers (λ (l : List Ledger). length l ≡ 8)
         (λ _. length-set I.ledgers b (leased L b I) ∙ s.ledgers) (λ _. s.ledgers);
     acked = λ j l. ap (λ (k : List Version). length k) (ackeds7 j) ∙ s.acked j l;
     waiting = s.waiting;
   }
 
   -- an object asked for is given at the version held
-  pub given_own7 : InputShape I → o < 16 → asks_object a ≡ true → (j : ℕ) → last_read (after_renewal L b a o I) j o ≡ (held I o).version.0
-  given_own7 s l t j = ap (λ (k : List Held). (get_or k o no_held).given.0)
-      (cond-true (asks_object a) (set I.objects o (given_out (held I o))) I.objects t)
-      ∙ ap given_number (get_or-set_same I.objects o (given_out (held I o)) no_held (omega (arith, s.objects)))
+  pub given_own7 : InputShape I → r.object < 16 → asks_object r.parts ≡ true → (j : ℕ) → last_read (after_renewal L b r I) j r.object ≡ (held I r.object).version.0
+  given_own7 s l t j = ap (λ (k : List Held). (get_or k r.object no_held).given.0)
+      (cond-true (asks_object r.parts) (set I.objects r.object (given_out (held I r.object))) I.objects t)
+      ∙ ap given_number (get_or-set_same I.objects r.object (given_out (held I r.object)) no_held (omega (arith, s.objects)))
 
   -- a lease granted ends one lease length from now
-  pub until_own7 : InputShape I → b < 8 → grants a b I ≡ true → (ledger (after_renewal L b a o I) b).until.0 ≡ I.clock.0 + L
+  pub until_own7 : InputShape I → b < 8 → grants r.parts b I ≡ true → (ledger (after_renewal L b r I) b).until.0 ≡ I.clock.0 + L
   until_own7 s l t = ap (λ (k : List Ledger). (get_or k b no_ledger).until.0)
-      (cond-true (grants a b I) (set I.ledgers b (leased L b I)) I.ledgers t)
+      (cond-true (grants r.parts b I) (set I.ledgers b (leased L b I)) I.ledgers t)
       ∙ ap (λ (k : Ledger). k.until.0) (get_or-set_same I.ledgers b (leased L b I) no_ledger (omega (arith, s.ledgers)))
 
 -- ---- renewal request: how it moves the channels
@@ -761,66 +762,66 @@ shows a c t h = ap (λ (l : Pairs). list_of l) (cond-true (asks_volume a) (pairs
 
 module _ (L R : ℕ) where
   -- a renewal request of another output server
-  pub moves7_other : (b : ℕ) (a : Parts) (o : ℕ) (stamp : Time) (I : Input) (O : Output) (i j : ℕ) (log : List Message) → (b ≡ j → ⊥) →
-      Moves L R (view_of I O i j log) (view_of (after_renewal L b a o I) O i j (log ++ (answers_renewal i L b a o stamp I ∷ [])))
-  moves7_other b a o stamp I O i j log n = in_moves L R I (after_renewal L b a o I) O i j (answers_renewal i L b a o stamp I ∷ []) log
-      (λ p. omega (arith, ap number (held7 L b a o I p).0))
-      (omega (arith, ap (λ (e : Epoch). e.0) (epoch7 L b a o I j)))
+  pub moves7_other : (b : ℕ) (r : Renewal) (I : Input) (O : Output) (i j : ℕ) (log : List Message) → (b ≡ j → ⊥) →
+      Moves L R (view_of I O i j log) (view_of (after_renewal L b r I) O i j (log ++ (answers_renewal i L b r I)))
+  moves7_other b r I O i j log n = in_moves L R I (after_renewal L b r I) O i j (answers_renewal i L b r I) log
+      (λ p. omega (arith, ap number (held7 L b r I p).0))
+      (omega (arith, ap (λ (e : Epoch). e.0) (epoch7 L b r I j)))
       refl
-      (λ p. elim (given7 L b a o I j p) [ inl e ↦ inl e | inr e ↦ inr (e ∙ sym (ap number (held7 L b a o I p).0)) ])
-      (λ p. inl (acked7 L b a o I j p))
-      (inl (ap (λ (t : Time). t.0) (until7_other L b a o I j n)))
+      (λ p. elim (given7 L b r I j p) [ inl e ↦ inl e | inr e ↦ inr (e ∙ sym (ap number (held7 L b r I p).0)) ])
+      (λ p. inl (acked7 L b r I j p))
+      (inl (ap (λ (t : Time). t.0) (until7_other L b r I j n)))
       (λ p v h. inl (v, h, inl (omega arith)))
       (λ p h. elim h [ inl x ↦ absurd (n x.1) | inr x ↦ absurd x ])
 
   -- a renewal request of the channel's own
-  pub moves7_own : (a : Parts) (o : ℕ) (stamp : Time) (I : Input) (O : Output) (i j : ℕ) (log : List Message) →
-      InputShape I → o < 16 → j < 8 → 1 ≤ (held I o).version.0 → In (RenewalRequest j i a o stamp) log →
-      Moves L R (view_of I O i j log) (view_of (after_renewal L j a o I) O i j (log ++ (answers_renewal i L j a o stamp I ∷ [])))
-  moves7_own a o stamp I O i j log s low few one sent = in_moves L R I (after_renewal L j a o I) O i j
-      (answers_renewal i L j a o stamp I ∷ []) log
-      (λ p. omega (arith, ap number (held7 L j a o I p).0))
-      (omega (arith, ap (λ (e : Epoch). e.0) (epoch7 L j a o I j)))
+  pub moves7_own : (r : Renewal) (I : Input) (O : Output) (i j : ℕ) (log : List Message) →
+      InputShape I → r.object < 16 → j < 8 → 1 ≤ (held I r.object).version.0 → In (RenewalRequest j i r) log →
+      Moves L R (view_of I O i j log) (view_of (after_renewal L j r I) O i j (log ++ (answers_renewal i L j r I)))
+  moves7_own r I O i j log s low few one sent = in_moves L R I (after_renewal L j r I) O i j
+      (answers_renewal i L j r I) log
+      (λ p. omega (arith, ap number (held7 L j r I p).0))
+      (omega (arith, ap (λ (e : Epoch). e.0) (epoch7 L j r I j)))
       refl
-      (λ p. elim (given7 L j a o I j p) [ inl e ↦ inl e | inr e ↦ inr (e ∙ sym (ap number (held7 L j a o I p).0)) ])
-      (λ p. inl (acked7 L j a o I j p))
-      (elim (until7 L j a o I j) [ inl e ↦ inl (ap (λ (t : Time). t.0) e) | inr e ↦ inr e ])
+      (λ p. elim (given7 L j r I j p) [ inl e ↦ inl e | inr e ↦ inr (e ∙ sym (ap number (held7 L j r I p).0)) ])
+      (λ p. inl (acked7 L j r I j p))
+      (elim (until7 L j r I j) [ inl e ↦ inl (ap (λ (t : Time). t.0) e) | inr e ↦ inr e ])
       (λ p v h. inl (v, h, inl (omega arith)))
       (λ p h. elim h [ inl x ↦ says p x.2 | inr x ↦ absurd x ])
     where
-      epochs : (ledger (after_renewal L j a o I) j).epoch.0 ≡ (ledger I j).epoch.0
-      epochs = ap (λ (e : Epoch). e.0) (epoch7 L j a o I j)
+      epochs : (ledger (after_renewal L j r I) j).epoch.0 ≡ (ledger I j).epoch.0
+      epochs = ap (λ (e : Epoch). e.0) (epoch7 L j r I j)
 
-      copies : (q v e : ℕ) → asks_object a ≡ true →
-          (q ≡ o) × (v ≡ (cond (asks_object a) (held I o).version none).0) × (e ≡ (ledger I j).epoch.0) →
-          (1 ≤ v) × (v ≡ (held (after_renewal L j a o I) q).version.0) × (v ≡ last_read (after_renewal L j a o I) j q)
-          × (e ≡ (ledger (after_renewal L j a o I) j).epoch.0)
+      copies : (q v e : ℕ) → asks_object r.parts ≡ true →
+          (q ≡ r.object) × (v ≡ (cond (asks_object r.parts) (held I r.object).version none).0) × (e ≡ (ledger I j).epoch.0) →
+          (1 ≤ v) × (v ≡ (held (after_renewal L j r I) q).version.0) × (v ≡ last_read (after_renewal L j r I) j q)
+          × (e ≡ (ledger (after_renewal L j r I) j).epoch.0)
       copies q v e t x =
-          let y = ap number (cond-true (asks_object a) (held I o).version none t) in
-          let z = ap number (held7 L j a o I o).0 in
-          let g = given_own7 L j a o I s low t j in
-          let u = ap (λ (k : ℕ). (held (after_renewal L j a o I) k).version.0) x.0 in
-          let w = ap (λ (k : ℕ). last_read (after_renewal L j a o I) j k) x.0 in
+          let y = ap number (cond-true (asks_object r.parts) (held I r.object).version none t) in
+          let z = ap number (held7 L j r I r.object).0 in
+          let g = given_own7 L j r I s low t j in
+          let u = ap (λ (k : ℕ). (held (after_renewal L j r I) k).version.0) x.0 in
+          let w = ap (λ (k : ℕ). last_read (after_renewal L j r I) j k) x.0 in
           (omega arith, omega arith, omega arith, omega (arith, epochs))
 
-      granted : 1 ≤ cond (grants a j I) L 0 → grants a j I ≡ true
-      granted h = elim (cases_Bool (grants a j I)) [ inl t ↦ t | inr t ↦ absurd (omega (arith, cond-false (grants a j I) L 0 t)) ]
+      granted : 1 ≤ cond (grants r.parts j I) L 0 → grants r.parts j I ≡ true
+      granted h = elim (cases_Bool (grants r.parts j I)) [ inl t ↦ t | inr t ↦ absurd (omega (arith, cond-false (grants r.parts j I) L 0 t)) ]
 
-      says : (p : Part) → ((asks_object a ≡ true) × IsCopy o (cond (asks_object a) (held I o).version none).0 (ledger I j).epoch.0 p)
-          ⊎ ((asks_volume a ≡ true) × (1 ≤ cond (grants a j I) L 0) × IsLease stamp.0 (cond (grants a j I) L 0) (ledger I j).epoch.0
-          (list_of (cond (asks_volume a) (pairs (take shown (chain I j))) (pairs []))) p) →
-          Fresh L (view_of I O i j log) (view_of (after_renewal L j a o I) O i j (log ++ (answers_renewal i L j a o stamp I ∷ []))) p
+      says : (p : Part) → ((asks_object r.parts ≡ true) × IsCopy r.object (cond (asks_object r.parts) (held I r.object).version none).0 (ledger I j).epoch.0 p)
+          ⊎ ((asks_volume r.parts ≡ true) × (1 ≤ cond (grants r.parts j I) L 0) × IsLease r.stamp.0 (cond (grants r.parts j I) L 0) (ledger I j).epoch.0
+          (list_of (cond (asks_volume r.parts) (pairs (take shown (chain I j))) (pairs []))) p) →
+          Fresh L (view_of I O i j log) (view_of (after_renewal L j r I) O i j (log ++ (answers_renewal i L j r I))) p
       says (asked t) h = elim h [ inl x ↦ absurd x.1 | inr x ↦ absurd x.2 ]
       says (copy q v e) h = elim h [ inl x ↦ copies q v e x.0 x.1 | inr x ↦ absurd x.2 ]
       says (lease t l e ps) h = elim h [
         | inl x ↦ absurd x.1
         | inr x ↦ let g = granted x.1 in (
-          in_any (Says i j (asked t)) (RenewalRequest j i a o stamp) log sent (refl, refl, x.0, x.2.0),
-          x.2.1 ∙ cond-true (grants a j I) L 0 g,
+          in_any (Says i j (asked t)) (RenewalRequest j i r) log sent (refl, refl, x.0, x.2.0),
+          x.2.1 ∙ cond-true (grants r.parts j I) L 0 g,
           x.2.2 ∙ sym epochs,
-          until_own7 L j a o I s few g,
-          λ q v y. subst (Has q v) (sym (x.2.3 ∙ shows a (chain I j) x.0
-              (leb-true (length (chain I j)) 8 (and_parts (asks_volume a) (leb (length (chain I j)) 8) g).1))) y,
+          until_own7 L j r I s few g,
+          λ q v y. subst (Has q v) (sym (x.2.3 ∙ shows r.parts (chain I j) x.0
+              (leb-true (length (chain I j)) 8 (and_parts (asks_volume r.parts) (leb (length (chain I j)) 8) g).1))) y,
         )
       ]
       says (answer q v) h = elim h [ inl x ↦ absurd x.1 | inr x ↦ absurd x.2 ]

@@ -4,7 +4,8 @@ use Rattle.numbers.specs.declared.epoch.Epoch.{Epoch}
 use Rattle.rules.specs.declared.kept.Held.{Held}
 use Rattle.rules.specs.declared.message.Message.{Message}
 use Rattle.rules.specs.declared.message.Message.TheVariants.{ClockQuestion, ClockAnswer, WriteRequest, WriteAnswer, ReadRequest, ReadAnswer, RenewalRequest, RenewalAnswer, Invalidation, InvalidationAnswer}
-use Rattle.rules.specs.declared.parts.Parts.{Parts}
+use Rattle.rules.specs.declared.renewal.Renewal.{Renewal}
+use Rattle.rules.specs.declared.renewal.Renewed.{Renewed}
 use Rattle.rules.specs.declared.pairs.Pairs.{Pairs}
 use Rattle.numbers.specs.declared.time.Time.{Time}
 use Rattle.numbers.specs.declared.version.Version.{Version}
@@ -80,12 +81,12 @@ module _ (P : Params) (small : Small P) (W : World) (k : Kept P W) where
           (subst (λ (y : Version). In (WriteRequest p a q y x) W.sent) (sym e)
           (subst (λ (y : ℕ). In (WriteRequest p a y v x) W.sent) (sym d) sent))
 
-  input_renewal : (b : ℕ) (w : Parts) (o : ℕ) (I : Input) → InputStep W I (after_renewal P.lease b w o I)
-  input_renewal b w o I = record {
+  input_renewal : (b : ℕ) (r : Renewal) (I : Input) → InputStep W I (after_renewal P.lease b r I)
+  input_renewal b r I = record {
     lc_up = omega arith;
-    shape = Ins.shape7 P.lease b w o I;
-    clocked = Ins.lc7 P.lease b w o I;
-    held = λ q. inl (Ins.held7 P.lease b w o I q);
+    shape = Ins.shape7 P.lease b r I;
+    clocked = Ins.lc7 P.lease b r I;
+    held = λ q. inl (Ins.held7 P.lease b r I q);
   }
 
   input_ack : (b : ℕ) (l : Pairs) (I : Input) → InputStep W I (acknowledges_all b (list_of l) I)
@@ -111,29 +112,29 @@ module _ (P : Params) (small : Small P) (W : World) (k : Kept P W) where
   inputs_step (hears (WriteAnswer a p t)) h i = input_same W (W.inp i)
   inputs_step (hears (ReadRequest p b o)) h i = input_same W (W.inp i)
   inputs_step (hears (ReadAnswer b p v x)) h i = input_same W (W.inp i)
-  inputs_step (hears (RenewalRequest b a w o stamp)) h i = one_input a (after_renewal P.lease b w o (W.inp a)) (input_renewal b w o (W.inp a)) i
-  inputs_step (hears (RenewalAnswer a b w o v x e stamp len l)) h i = input_same W (W.inp i)
+  inputs_step (hears (RenewalRequest b a r)) h i = one_input a (after_renewal P.lease b r (W.inp a)) (input_renewal b r (W.inp a)) i
+  inputs_step (hears (RenewalAnswer a b y)) h i = input_same W (W.inp i)
   inputs_step (hears (Invalidation a b o v)) h i = input_same W (W.inp i)
   inputs_step (hears (InvalidationAnswer b a l)) h i = one_input a (acknowledges_all b (list_of l) (W.inp a)) (input_ack b l (W.inp a)) i
 
-  output_answer : (a b : ℕ) (w : Parts) (o : ℕ) (v : Version) (x : ℕ) (e : Epoch) (stamp : Time) (len : ℕ) (l : Pairs)
-      → In (RenewalAnswer a b w o v x e stamp len l) W.sent → (O : Output)
-      → OutputStep W O (after_answer P.drift a w o v x e stamp len (list_of l) O)
-  output_answer a b w o v x e stamp len l sent O = record {
-    shape = Outs.shape8 P.drift a w o v x e stamp len (list_of l) O;
-    newest = λ q. elim (Outs.newest8 P.drift a w o v x e stamp len (list_of l) O q) [
+  output_answer : (a b : ℕ) (y : Renewed)
+      → In (RenewalAnswer a b y) W.sent → (O : Output)
+      → OutputStep W O (after_answer P.drift a y O)
+  output_answer a b y sent O = record {
+    shape = Outs.shape8 P.drift a y O;
+    newest = λ q. elim (Outs.newest8 P.drift a y O q) [
       | inl d ↦ inl d
-      | inr d ↦ inr (wanted q (newest_of (after_answer P.drift a w o v x e stamp len (list_of l) O) q).version
-          (newest_of (after_answer P.drift a w o v x e stamp len (list_of l) O) q).value d.0 d.2 d.3
-          (msg_at (RenewalAnswer a b w o v x e stamp len l) sent d.1))
+      | inr d ↦ inr (wanted q (newest_of (after_answer P.drift a y O) q).version
+          (newest_of (after_answer P.drift a y O) q).value d.0 d.2 d.3
+          (msg_at (RenewalAnswer a b y) sent d.1))
     ];
   }
     where
-      wanted : (q : ℕ) (u : Version) (z : ℕ) → q ≡ o → u ≡ v → z ≡ x → Genuine W o v x → Genuine W q u z
+      wanted : (q : ℕ) (u : Version) (z : ℕ) → q ≡ y.renewal.object → u ≡ y.version → z ≡ y.value → Genuine W y.renewal.object y.version y.value → Genuine W q u z
       wanted q u z d e f g =
-          subst (λ (y : ℕ). Genuine W q u y) (sym f)
-          (subst (λ (y : Version). Genuine W q y x) (sym e)
-          (subst (λ (y : ℕ). Genuine W y v x) (sym d) g))
+          subst (λ (n : ℕ). Genuine W q u n) (sym f)
+          (subst (λ (n : Version). Genuine W q n y.value) (sym e)
+          (subst (λ (n : ℕ). Genuine W n y.version y.value) (sym d) g))
 
   pub outputs_step : (a : Act) → May P a W → (j : ℕ) → OutputStep W (W.out j) ((run P a W).out j)
   outputs_step (ticks x y) h j = record {
@@ -148,9 +149,9 @@ module _ (P : Params) (small : Small P) (W : World) (k : Kept P W) where
   outputs_step (hears (WriteAnswer a p t)) h j = output_same W (W.out j)
   outputs_step (hears (ReadRequest p b o)) h j = one_output b (W.out b) (output_same W (W.out b)) j
   outputs_step (hears (ReadAnswer b p v x)) h j = output_same W (W.out j)
-  outputs_step (hears (RenewalRequest b a w o stamp)) h j = output_same W (W.out j)
-  outputs_step (hears (RenewalAnswer a b w o v x e stamp len l)) h j =
-      one_output b (after_answer P.drift a w o v x e stamp len (list_of l) (W.out b)) (output_answer a b w o v x e stamp len l h.0 (W.out b)) j
+  outputs_step (hears (RenewalRequest b a r)) h j = output_same W (W.out j)
+  outputs_step (hears (RenewalAnswer a b y)) h j =
+      one_output b (after_answer P.drift a y (W.out b)) (output_answer a b y h.0 (W.out b)) j
   outputs_step (hears (Invalidation a b o v)) h j =
       one_output b (after_invalidation a o v (W.out b))
       (record { shape = Outs.shape9 a o v (W.out b); newest = λ q. inl (Outs.newest9 a o v (W.out b) q) }) j

@@ -85,8 +85,8 @@ MsgOk P W (WriteAnswer i p t) =
     × ((j : ℕ) → has t.0 j ≡ true → i < P.counts.n → j < P.counts.m → Stands P W i j o v.0))
 MsgOk P W (ReadRequest p j o) = Begun W p × Reads (W.op p) o
 MsgOk P W (ReadAnswer j p v x) = Begun W p × ((o : ℕ) × AskedFor W p o × Genuine W o v x)
-MsgOk P W (RenewalRequest j i a o stamp) = Unit {0}
-MsgOk P W (RenewalAnswer i j a o v x e stamp length l) = asks_object a ≡ true → Genuine W o v x
+MsgOk P W (RenewalRequest j i r) = Unit {0}
+MsgOk P W (RenewalAnswer i j y) = asks_object y.renewal.parts ≡ true → Genuine W y.renewal.object y.version y.value
 MsgOk P W (Invalidation i j o v) = Unit {0}
 MsgOk P W (InvalidationAnswer j i l) = Unit {0}
 
@@ -174,8 +174,8 @@ module _ (P : Params) (W V : World) (g : Grows P W V) where
     begun_grows p h.0,
     (r.0, (r.1.0, g.sent (ReadRequest p r.1.0 r.0) r.1.1), genuine_grows r.0 v x r.2),
   )
-  msg_grows (RenewalRequest j i a o stamp) h = tt
-  msg_grows (RenewalAnswer i j a o v x e stamp length l) h = λ b. genuine_grows o v x (h b)
+  msg_grows (RenewalRequest j i r) h = tt
+  msg_grows (RenewalAnswer i j y) h = λ b. genuine_grows y.renewal.object y.version y.value (h b)
   msg_grows (Invalidation i j o v) h = tt
   msg_grows (InvalidationAnswer j i l) h = tt
 

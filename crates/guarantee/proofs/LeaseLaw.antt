@@ -17,17 +17,17 @@ use Rattle.guarantee.proofs.Words.{in_any}
 use Rattle.guarantee.proofs.World.{Params, world_of}
 
 pub leases_run_out : LeasesRunOut
-leases_run_out S il ol closed t h is_open i j i<n j<m waited a o v x e stamp len l asks some sent = elim (fine S il ol closed t h) [
+leases_run_out S il ol closed t h is_open i j i<n j<m waited y asks some sent = elim (fine S il ol closed t h) [
   | inl f ↦ absurd (false≢true (sym f ∙ is_open))
   | inr k ↦ ends k.live.params k.live.kept
 ]
   where
     ends : {P : Params} → params_of S.inputs S.outputs (before S t) ≡ P → Kept P (world_of (before S t))
-        → (lease_end stamp.0 len (before S t).frame.drift).0 ≤ (output_at (before S t) j).clock.0
+        → (lease_end y.renewal.stamp.0 y.length (before S t).frame.drift).0 ≤ (output_at (before S t) j).clock.0
     ends p kept =
         let k = subst (λ (Q : Params). Kept Q (world_of (before S t))) (sym p) kept in
         over (before S t).frame.lease (1000 - (before S t).frame.drift) (view (world_of (before S t)) i j) (k.chans i j i<n j<m) waited
-        stamp.0 len e.0 (list_of l)
-        (in_any (Says i j (lease stamp.0 len e.0 (list_of l))) (RenewalAnswer i j a o v x e stamp len l) (take (before S t).made (before S t).log)
-        (has_in (RenewalAnswer i j a o v x e stamp len l) (take (before S t).made (before S t).log) sent)
+        y.renewal.stamp.0 y.length y.epoch.0 (list_of y.list)
+        (in_any (Says i j (lease y.renewal.stamp.0 y.length y.epoch.0 (list_of y.list))) (RenewalAnswer i j y) (take (before S t).made (before S t).log)
+        (has_in (RenewalAnswer i j y) (take (before S t).made (before S t).log) sent)
         (refl, refl, inr (asks, some, (refl, refl, refl, refl))))

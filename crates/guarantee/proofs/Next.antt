@@ -118,7 +118,7 @@ module _ (P : Params) (small : Small P) (lawful : Lawful P.inputs) (W : World) (
 
   read_news : (p b o : ℕ) → (h : May P (hears (ReadRequest p b o)) W)
       → All (MsgOk P (next (hears (ReadRequest p b o)))) (answers_read P.inputs b p P.counts.n o (W.out b))
-  read_news p b o h = Outs.read_all P.inputs b p P.counts.n o (W.out b) (MsgOk P V) answer (λ _ _ _. tt)
+  read_news p b o h = Outs.read_all P.inputs b p P.counts.n o (W.out b) (MsgOk P V) answer (λ _ _. tt)
     where
       V : World
       V = next (hears (ReadRequest p b o))
@@ -171,14 +171,14 @@ module _ (P : Params) (small : Small P) (lawful : Lawful P.inputs) (W : World) (
       go (hears (WriteAnswer a p t)) h g = more (hears (WriteAnswer a p t)) g _ (sends_ok (WriteAnswer a p t) (W.op p) h refl)
       go (hears (ReadRequest p b o)) h g = more (hears (ReadRequest p b o)) g (answers_read P.inputs b p P.counts.n o (W.out b)) (read_news p b o h)
       go (hears (ReadAnswer b p v x)) h g = more (hears (ReadAnswer b p v x)) g _ (sends_ok (ReadAnswer b p v x) (W.op p) h refl)
-      go (hears (RenewalRequest b a w o stamp)) h g = more (hears (RenewalRequest b a w o stamp)) g (answers_renewal a P.lease b w o stamp (W.inp a) ∷ []) (
-        (λ e. let f = fits_renewal P.counts b a w o stamp h.1 in
-            let z = genuine_grows P W (next (hears (RenewalRequest b a w o stamp))) g o (held (W.inp a) o).version (held (W.inp a) o).value (k.held_genuine a o f.input (few o f.object)) in
-            subst (λ (t : Bool). Genuine (next (hears (RenewalRequest b a w o stamp))) o (cond t (held (W.inp a) o).version none) (cond t (held (W.inp a) o).value 0)) (sym e) z),
+      go (hears (RenewalRequest b a r)) h g = more (hears (RenewalRequest b a r)) g (answers_renewal a P.lease b r (W.inp a)) (
+        (λ e. let f = fits_renewal P.counts b a r h.1 in
+            let z = genuine_grows P W (next (hears (RenewalRequest b a r))) g r.object (held (W.inp a) r.object).version (held (W.inp a) r.object).value (k.held_genuine a r.object f.input (few r.object f.object)) in
+            subst (λ (t : Bool). Genuine (next (hears (RenewalRequest b a r))) r.object (cond t (held (W.inp a) r.object).version none) (cond t (held (W.inp a) r.object).value 0)) (sym e) z),
         tt,
       )
-      go (hears (RenewalAnswer a b w o v x e stamp len l)) h g = more (hears (RenewalAnswer a b w o v x e stamp len l)) g (acknowledgement b a l)
-          (Outs.ack_all (MsgOk P (next (hears (RenewalAnswer a b w o v x e stamp len l)))) b a l tt)
+      go (hears (RenewalAnswer a b y)) h g = more (hears (RenewalAnswer a b y)) g (acknowledgement b a y.list)
+          (Outs.ack_all (MsgOk P (next (hears (RenewalAnswer a b y)))) b a y.list tt)
       go (hears (Invalidation a b o v)) h g = more (hears (Invalidation a b o v)) g _ (tt, tt)
       go (hears (InvalidationAnswer b a l)) h g = more (hears (InvalidationAnswer b a l)) g [] tt
 

@@ -9,7 +9,7 @@ use Rattle.rules.specs.declared.kept.Link.{Link}
 use Rattle.rules.specs.declared.kept.Newest.{Newest}
 use Rattle.rules.specs.declared.message.Message.{Message}
 use Rattle.rules.specs.declared.message.Message.TheVariants.{ReadAnswer, RenewalRequest, RenewalAnswer, InvalidationAnswer}
-use Rattle.rules.specs.declared.parts.Parts.{Parts}
+use Rattle.rules.specs.declared.renewal.Renewed.{Renewed}
 use Rattle.rules.specs.declared.pairs.Pair.{Pair}
 use Rattle.rules.specs.declared.pairs.Pairs.{Pairs}
 use Rattle.numbers.specs.declared.time.Time.{Time}
@@ -18,7 +18,7 @@ use Rattle.rules.specs.Input.{Input}
 use Rattle.rules.specs.Lists.{list_of}
 use Rattle.numbers.specs.Numbers.{raised, later, longer, lease_end}
 use Rattle.rules.specs.Output.{Output, no_newest, no_copy, no_link, newest_of, link, copy_of, sound, leased, good, covers, valid}
-use Rattle.rules.specs.Output.{renewals, answers_read, with_copy, hears, hears_all, accepts, takes_copy, takes_lease}
+use Rattle.rules.specs.Output.{asked as wanted, asks, asks_all, answers_read, with_copy, hears, hears_all, accepts, takes_copy, takes_lease}
 use Rattle.rules.specs.Output.{after_answer, acknowledgement, after_invalidation, answers_invalidation}
 use Rattle.rules.specs.Renewals.{asks_object, asks_volume, parts_of}
 use Rattle.guarantee.proofs.View.{Has, View, Part, asked, copy, lease, answer, Grant, Moves, Fresh, Good}
@@ -127,146 +127,146 @@ hears_all_told (x ∷ r) l b o v (inr h) =
 
 -- ---- a link that takes a copy
 
-abbrev taken : ℕ → Version → Epoch → Link → Copied
-taken o v e l = record { got = v; known = v; epoch = later (copy_of l o).epoch e }
+abbrev taken : Renewed → Link → Copied
+taken y l = record { got = y.version; known = y.version; epoch = later (copy_of l y.renewal.object).epoch y.epoch }
 
 -- each copy is as it was, or is the one that was accepted
-takes_from : (w : Parts) (o : ℕ) (v : Version) (e : Epoch) (l : Link) (p : ℕ) → (copy_of (takes_copy w o v e l) p ≡ copy_of l p)
-    ⊎ ((o ≡ p) × (asks_object w ≡ true) × ((copy_of l o).known.0 ≤ v.0) × (copy_of (takes_copy w o v e l) p ≡ taken o v e l))
-takes_from w o v e l p = cond_both (accepts w o v l) (with_copy o (taken o v e l) l) l
+takes_from : (y : Renewed) (l : Link) (p : ℕ) → (copy_of (takes_copy y l) p ≡ copy_of l p)
+    ⊎ ((y.renewal.object ≡ p) × (asks_object y.renewal.parts ≡ true) × ((copy_of l y.renewal.object).known.0 ≤ y.version.0) × (copy_of (takes_copy y l) p ≡ taken y l))
+takes_from y l p = cond_both (accepts y l) (with_copy y.renewal.object (taken y l) l) l
     (λ (k : Link). (copy_of k p ≡ copy_of l p)
-    ⊎ ((o ≡ p) × (asks_object w ≡ true) × ((copy_of l o).known.0 ≤ v.0) × (copy_of k p ≡ taken o v e l)))
-    (λ t. let b = and_parts (asks_object w) (leb (copy_of l o).known.0 v.0) t in elim (set_from l.copies o p (taken o v e l) no_copy) [
+    ⊎ ((y.renewal.object ≡ p) × (asks_object y.renewal.parts ≡ true) × ((copy_of l y.renewal.object).known.0 ≤ y.version.0) × (copy_of k p ≡ taken y l)))
+    (λ t. let b = and_parts (asks_object y.renewal.parts) (leb (copy_of l y.renewal.object).known.0 y.version.0) t in elim (set_from l.copies y.renewal.object p (taken y l) no_copy) [
       | inl h ↦ inl h
-      | inr h ↦ inr (h.0, b.0, leb-true (copy_of l o).known.0 v.0 b.1, h.1)
+      | inr h ↦ inr (h.0, b.0, leb-true (copy_of l y.renewal.object).known.0 y.version.0 b.1, h.1)
     ])
     (λ _. inl refl)
 
-takes_copies : (w : Parts) (o : ℕ) (v : Version) (e : Epoch) (l : Link) → length (takes_copy w o v e l).copies ≡ length l.copies
-takes_copies w o v e l = cond_both (accepts w o v l) (with_copy o (taken o v e l) l) l (λ (k : Link). length k.copies ≡ length l.copies)
-    (λ _. length-set l.copies o (taken o v e l)) (λ _. refl)
+takes_copies : (y : Renewed) (l : Link) → length (takes_copy y l).copies ≡ length l.copies
+takes_copies y l = cond_both (accepts y l) (with_copy y.renewal.object (taken y l) l) l (λ (k : Link). length k.copies ≡ length l.copies)
+    (λ _. length-set l.copies y.renewal.object (taken y l)) (λ _. refl)
 
-takes_lease_lem : (w : Parts) (o : ℕ) (v : Version) (e : Epoch) (l : Link)
-    → ((takes_copy w o v e l).epoch ≡ l.epoch) × ((takes_copy w o v e l).until ≡ l.until)
-takes_lease_lem w o v e l = cond_both (accepts w o v l) (with_copy o (taken o v e l) l) l
+takes_lease_lem : (y : Renewed) (l : Link)
+    → ((takes_copy y l).epoch ≡ l.epoch) × ((takes_copy y l).until ≡ l.until)
+takes_lease_lem y l = cond_both (accepts y l) (with_copy y.renewal.object (taken y l) l) l
     (λ (k : Link). (k.epoch ≡ l.epoch) × (k.until ≡ l.until)) (λ _. (refl, refl)) (λ _. (refl, refl))
 
-takes_up : (w : Parts) (o : ℕ) (v : Version) (e : Epoch) (l : Link) (p : ℕ) → (copy_of l p).known.0 ≤ (copy_of (takes_copy w o v e l) p).known.0
-takes_up w o v e l p = elim (takes_from w o v e l p) [
+takes_up : (y : Renewed) (l : Link) (p : ℕ) → (copy_of l p).known.0 ≤ (copy_of (takes_copy y l) p).known.0
+takes_up y l p = elim (takes_from y l p) [
   | inl h ↦ subst (λ (c : Copied). (copy_of l p).known.0 ≤ c.known.0) (sym h) (omega arith)
   | inr h ↦ subst (λ (c : Copied). (copy_of l p).known.0 ≤ c.known.0) (sym h.3)
-      (subst (λ (k : ℕ). (copy_of l k).known.0 ≤ v.0) h.0 h.2)
+      (subst (λ (k : ℕ). (copy_of l k).known.0 ≤ y.version.0) h.0 h.2)
 ]
 
 -- ---- a link that takes a lease
 
-module _ (w : Parts) (e : Epoch) (stamp : Time) (len drift : ℕ) (l : Link) where
+module _ (drift : ℕ) (y : Renewed) (l : Link) where
   abbrev leasing : Link
   leasing = record {
     copies = l.copies;
-    epoch = later l.epoch e;
-    until = cond (ltb 0 len) (longer l.until (lease_end stamp.0 len drift)) l.until;
+    epoch = later l.epoch y.epoch;
+    until = cond (ltb 0 y.length) (longer l.until (lease_end y.renewal.stamp.0 y.length drift)) l.until;
   }
 
-  leases_copies : (takes_lease w e stamp len drift l).copies ≡ l.copies
-  leases_copies = cond_both (asks_volume w) leasing l (λ (k : Link). k.copies ≡ l.copies) (λ _. refl) (λ _. refl)
+  leases_copies : (takes_lease drift y l).copies ≡ l.copies
+  leases_copies = cond_both (asks_volume y.renewal.parts) leasing l (λ (k : Link). k.copies ≡ l.copies) (λ _. refl) (λ _. refl)
 
-  leases_up : l.epoch.0 ≤ (takes_lease w e stamp len drift l).epoch.0
-  leases_up = cond_both (asks_volume w) leasing l (λ (k : Link). l.epoch.0 ≤ k.epoch.0) (λ _. later_up l.epoch e) (λ _. omega arith)
+  leases_up : l.epoch.0 ≤ (takes_lease drift y l).epoch.0
+  leases_up = cond_both (asks_volume y.renewal.parts) leasing l (λ (k : Link). l.epoch.0 ≤ k.epoch.0) (λ _. later_up l.epoch y.epoch) (λ _. omega arith)
 
-  leases_until : l.until.0 ≤ (takes_lease w e stamp len drift l).until.0
-  leases_until = cond_both (asks_volume w) leasing l (λ (k : Link). l.until.0 ≤ k.until.0)
-      (λ _. cond_both (ltb 0 len) (longer l.until (lease_end stamp.0 len drift)) l.until (λ (t : Time). l.until.0 ≤ t.0)
-      (λ _. longer_up l.until (lease_end stamp.0 len drift)) (λ _. omega arith))
+  leases_until : l.until.0 ≤ (takes_lease drift y l).until.0
+  leases_until = cond_both (asks_volume y.renewal.parts) leasing l (λ (k : Link). l.until.0 ≤ k.until.0)
+      (λ _. cond_both (ltb 0 y.length) (longer l.until (lease_end y.renewal.stamp.0 y.length drift)) l.until (λ (t : Time). l.until.0 ≤ t.0)
+      (λ _. longer_up l.until (lease_end y.renewal.stamp.0 y.length drift)) (λ _. omega arith))
       (λ _. omega arith)
 
   -- the lease ends where it did, or where the one taken ends
-  leases_from : ((takes_lease w e stamp len drift l).until ≡ l.until)
-      ⊎ ((asks_volume w ≡ true) × (1 ≤ len) × ((takes_lease w e stamp len drift l).until ≡ lease_end stamp.0 len drift)
-      × (e.0 ≤ (takes_lease w e stamp len drift l).epoch.0))
-  leases_from = cond_both (asks_volume w) leasing l
+  leases_from : ((takes_lease drift y l).until ≡ l.until)
+      ⊎ ((asks_volume y.renewal.parts ≡ true) × (1 ≤ y.length) × ((takes_lease drift y l).until ≡ lease_end y.renewal.stamp.0 y.length drift)
+      × (y.epoch.0 ≤ (takes_lease drift y l).epoch.0))
+  leases_from = cond_both (asks_volume y.renewal.parts) leasing l
       (λ (k : Link). (k.until ≡ l.until)
-      ⊎ ((asks_volume w ≡ true) × (1 ≤ len) × (k.until ≡ lease_end stamp.0 len drift) × (e.0 ≤ k.epoch.0)))
-      (λ t. cond_both (ltb 0 len) (longer l.until (lease_end stamp.0 len drift)) l.until
+      ⊎ ((asks_volume y.renewal.parts ≡ true) × (1 ≤ y.length) × (k.until ≡ lease_end y.renewal.stamp.0 y.length drift) × (y.epoch.0 ≤ k.epoch.0)))
+      (λ t. cond_both (ltb 0 y.length) (longer l.until (lease_end y.renewal.stamp.0 y.length drift)) l.until
       (λ (u : Time). (u ≡ l.until)
-      ⊎ ((asks_volume w ≡ true) × (1 ≤ len) × (u ≡ lease_end stamp.0 len drift) × (e.0 ≤ (later l.epoch e).0)))
-      (λ s. elim (longer_from l.until (lease_end stamp.0 len drift)) [
+      ⊎ ((asks_volume y.renewal.parts ≡ true) × (1 ≤ y.length) × (u ≡ lease_end y.renewal.stamp.0 y.length drift) × (y.epoch.0 ≤ (later l.epoch y.epoch).0)))
+      (λ s. elim (longer_from l.until (lease_end y.renewal.stamp.0 y.length drift)) [
         | inl h ↦ inl h
-        | inr h ↦ inr (t, omega (arith, ltb-true 0 len s), h, later_to l.epoch e)
+        | inr h ↦ inr (t, omega (arith, ltb-true 0 y.length s), h, later_to l.epoch y.epoch)
       ])
       (λ _. inl refl))
       (λ _. inl refl)
 
 -- ---- a link after a renewal answer
 
-abbrev pub answered : ℕ → Parts → ℕ → Version → Epoch → Time → ℕ → List Pair → Link → Link
-answered drift w o v e stamp len ps l = takes_lease w e stamp len drift (takes_copy w o v e (hears_all ps l))
+abbrev pub answered : ℕ → Renewed → Link → Link
+answered drift y l = takes_lease drift y (takes_copy y (hears_all (list_of y.list) l))
 
-module _ (drift : ℕ) (w : Parts) (o : ℕ) (v : Version) (e : Epoch) (stamp : Time) (len : ℕ) (ps : List Pair) (l : Link) where
-  answered_copy : (p : ℕ) → copy_of (answered drift w o v e stamp len ps l) p ≡ copy_of (takes_copy w o v e (hears_all ps l)) p
-  answered_copy p = ap (λ (cs : List Copied). get_or cs p no_copy) (leases_copies w e stamp len drift (takes_copy w o v e (hears_all ps l)))
+module _ (drift : ℕ) (y : Renewed) (l : Link) where
+  answered_copy : (p : ℕ) → copy_of (answered drift y l) p ≡ copy_of (takes_copy y (hears_all (list_of y.list) l)) p
+  answered_copy p = ap (λ (cs : List Copied). get_or cs p no_copy) (leases_copies drift y (takes_copy y (hears_all (list_of y.list) l)))
 
-  pub answered_copies : length (answered drift w o v e stamp len ps l).copies ≡ length l.copies
-  answered_copies = ap (λ (cs : List Copied). length cs) (leases_copies w e stamp len drift (takes_copy w o v e (hears_all ps l)))
-      ∙ takes_copies w o v e (hears_all ps l) ∙ hears_all_copies ps l
+  pub answered_copies : length (answered drift y l).copies ≡ length l.copies
+  answered_copies = ap (λ (cs : List Copied). length cs) (leases_copies drift y (takes_copy y (hears_all (list_of y.list) l)))
+      ∙ takes_copies y (hears_all (list_of y.list) l) ∙ hears_all_copies (list_of y.list) l
 
   -- what is known never falls
-  pub answered_up : (p : ℕ) → (copy_of l p).known.0 ≤ (copy_of (answered drift w o v e stamp len ps l) p).known.0
+  pub answered_up : (p : ℕ) → (copy_of l p).known.0 ≤ (copy_of (answered drift y l) p).known.0
   answered_up p = subst (λ (c : Copied). (copy_of l p).known.0 ≤ c.known.0) (sym (answered_copy p))
-      (omega (arith, hears_all_up ps l p, takes_up w o v e (hears_all ps l) p))
+      (omega (arith, hears_all_up (list_of y.list) l p, takes_up y (hears_all (list_of y.list) l) p))
 
   -- every pair of the list is known
-  pub answered_told : All (λ (p : Pair). p.object < length l.copies) ps → (q u : ℕ) → Has q u ps
-      → u ≤ (copy_of (answered drift w o v e stamp len ps l) q).known.0
+  pub answered_told : All (λ (p : Pair). p.object < length l.copies) (list_of y.list) → (q u : ℕ) → Has q u (list_of y.list)
+      → u ≤ (copy_of (answered drift y l) q).known.0
   answered_told b q u h = subst (λ (c : Copied). u ≤ c.known.0) (sym (answered_copy q))
-      (omega (arith, hears_all_told ps l b q u h, takes_up w o v e (hears_all ps l) q))
+      (omega (arith, hears_all_told (list_of y.list) l b q u h, takes_up y (hears_all (list_of y.list) l) q))
 
   -- what was got is as it was, or is what the answer gave
-  pub answered_got : (p : ℕ) → ((copy_of (answered drift w o v e stamp len ps l) p).got ≡ (copy_of l p).got)
-      ⊎ ((o ≡ p) × (asks_object w ≡ true) × ((copy_of (answered drift w o v e stamp len ps l) p).got ≡ v)
-      × ((copy_of (answered drift w o v e stamp len ps l) p).known ≡ v))
+  pub answered_got : (p : ℕ) → ((copy_of (answered drift y l) p).got ≡ (copy_of l p).got)
+      ⊎ ((y.renewal.object ≡ p) × (asks_object y.renewal.parts ≡ true) × ((copy_of (answered drift y l) p).got ≡ y.version)
+      × ((copy_of (answered drift y l) p).known ≡ y.version))
   answered_got p = subst
-      (λ (c : Copied). (c.got ≡ (copy_of l p).got) ⊎ ((o ≡ p) × (asks_object w ≡ true) × (c.got ≡ v) × (c.known ≡ v)))
+      (λ (c : Copied). (c.got ≡ (copy_of l p).got) ⊎ ((y.renewal.object ≡ p) × (asks_object y.renewal.parts ≡ true) × (c.got ≡ y.version) × (c.known ≡ y.version)))
       (sym (answered_copy p))
-      (elim (takes_from w o v e (hears_all ps l) p) [
-        | inl h ↦ inl (ap (λ (c : Copied). c.got) h ∙ hears_all_got ps l p)
+      (elim (takes_from y (hears_all (list_of y.list) l) p) [
+        | inl h ↦ inl (ap (λ (c : Copied). c.got) h ∙ hears_all_got (list_of y.list) l p)
         | inr h ↦ inr (h.0, h.1, ap (λ (c : Copied). c.got) h.3, ap (λ (c : Copied). c.known) h.3)
       ])
 
   -- and so is the epoch of the copy
-  pub answered_epoch : (p : ℕ) → ((copy_of (answered drift w o v e stamp len ps l) p).epoch ≡ (copy_of l p).epoch)
-      ⊎ ((o ≡ p) × (asks_object w ≡ true) × ((copy_of (answered drift w o v e stamp len ps l) p).epoch ≡ e)
-      × ((copy_of (answered drift w o v e stamp len ps l) p).known ≡ v))
+  pub answered_epoch : (p : ℕ) → ((copy_of (answered drift y l) p).epoch ≡ (copy_of l p).epoch)
+      ⊎ ((y.renewal.object ≡ p) × (asks_object y.renewal.parts ≡ true) × ((copy_of (answered drift y l) p).epoch ≡ y.epoch)
+      × ((copy_of (answered drift y l) p).known ≡ y.version))
   answered_epoch p = subst
-      (λ (c : Copied). (c.epoch ≡ (copy_of l p).epoch) ⊎ ((o ≡ p) × (asks_object w ≡ true) × (c.epoch ≡ e) × (c.known ≡ v)))
+      (λ (c : Copied). (c.epoch ≡ (copy_of l p).epoch) ⊎ ((y.renewal.object ≡ p) × (asks_object y.renewal.parts ≡ true) × (c.epoch ≡ y.epoch) × (c.known ≡ y.version)))
       (sym (answered_copy p))
-      (elim (takes_from w o v e (hears_all ps l) p) [
-        | inl h ↦ inl (ap (λ (c : Copied). c.epoch) h ∙ hears_all_epoch ps l p)
-        | inr h ↦ elim (later_from (copy_of (hears_all ps l) o).epoch e) [
-          | inl k ↦ inl (ap (λ (c : Copied). c.epoch) h.3 ∙ k ∙ hears_all_epoch ps l o ∙ ap (λ (q : ℕ). (copy_of l q).epoch) h.0)
+      (elim (takes_from y (hears_all (list_of y.list) l) p) [
+        | inl h ↦ inl (ap (λ (c : Copied). c.epoch) h ∙ hears_all_epoch (list_of y.list) l p)
+        | inr h ↦ elim (later_from (copy_of (hears_all (list_of y.list) l) y.renewal.object).epoch y.epoch) [
+          | inl k ↦ inl (ap (λ (c : Copied). c.epoch) h.3 ∙ k ∙ hears_all_epoch (list_of y.list) l y.renewal.object ∙ ap (λ (q : ℕ). (copy_of l q).epoch) h.0)
           | inr k ↦ inr (h.0, h.1, ap (λ (c : Copied). c.epoch) h.3 ∙ k, ap (λ (c : Copied). c.known) h.3)
         ]
       ])
 
   -- the lease's epoch and end never fall
-  pub answered_epoch_up : l.epoch.0 ≤ (answered drift w o v e stamp len ps l).epoch.0
+  pub answered_epoch_up : l.epoch.0 ≤ (answered drift y l).epoch.0
   answered_epoch_up =
-      let a = ap (λ (x : Epoch). x.0) (hears_all_lease ps l).0 in
-      let b = ap (λ (x : Epoch). x.0) (takes_lease_lem w o v e (hears_all ps l)).0 in
-      omega (arith, leases_up w e stamp len drift (takes_copy w o v e (hears_all ps l)))
+      let a = ap (λ (x : Epoch). x.0) (hears_all_lease (list_of y.list) l).0 in
+      let b = ap (λ (x : Epoch). x.0) (takes_lease_lem y (hears_all (list_of y.list) l)).0 in
+      omega (arith, leases_up drift y (takes_copy y (hears_all (list_of y.list) l)))
 
-  pub answered_until_up : l.until.0 ≤ (answered drift w o v e stamp len ps l).until.0
+  pub answered_until_up : l.until.0 ≤ (answered drift y l).until.0
   answered_until_up =
-      let a = ap (λ (x : Time). x.0) (hears_all_lease ps l).1 in
-      let b = ap (λ (x : Time). x.0) (takes_lease_lem w o v e (hears_all ps l)).1 in
-      omega (arith, leases_until w e stamp len drift (takes_copy w o v e (hears_all ps l)))
+      let a = ap (λ (x : Time). x.0) (hears_all_lease (list_of y.list) l).1 in
+      let b = ap (λ (x : Time). x.0) (takes_lease_lem y (hears_all (list_of y.list) l)).1 in
+      omega (arith, leases_until drift y (takes_copy y (hears_all (list_of y.list) l)))
 
   -- the lease ends where it did, or where the one that the answer gave ends
-  pub answered_until : ((answered drift w o v e stamp len ps l).until ≡ l.until)
-      ⊎ ((asks_volume w ≡ true) × (1 ≤ len) × ((answered drift w o v e stamp len ps l).until ≡ lease_end stamp.0 len drift)
-      × (e.0 ≤ (answered drift w o v e stamp len ps l).epoch.0))
-  answered_until = elim (leases_from w e stamp len drift (takes_copy w o v e (hears_all ps l))) [
-    | inl h ↦ inl (h ∙ (takes_lease_lem w o v e (hears_all ps l)).1 ∙ (hears_all_lease ps l).1)
+  pub answered_until : ((answered drift y l).until ≡ l.until)
+      ⊎ ((asks_volume y.renewal.parts ≡ true) × (1 ≤ y.length) × ((answered drift y l).until ≡ lease_end y.renewal.stamp.0 y.length drift)
+      × (y.epoch.0 ≤ (answered drift y l).epoch.0))
+  answered_until = elim (leases_from drift y (takes_copy y (hears_all (list_of y.list) l))) [
+    | inl h ↦ inl (h ∙ (takes_lease_lem y (hears_all (list_of y.list) l)).1 ∙ (hears_all_lease (list_of y.list) l).1)
     | inr h ↦ inr h
   ]
 
@@ -416,63 +416,63 @@ changed P ls a i k same new = elim (set_from ls a i k no_link) [
 
 -- ---- a renewal answer from input server a
 
-module _ (drift a : ℕ) (w : Parts) (o : ℕ) (v : Version) (x : ℕ) (e : Epoch) (stamp : Time) (len : ℕ) (ps : List Pair) (O : Output) where
-  pub clock8 : (after_answer drift a w o v x e stamp len ps O).clock ≡ O.clock
+module _ (drift a : ℕ) (y : Renewed) (O : Output) where
+  pub clock8 : (after_answer drift a y O).clock ≡ O.clock
   unfolding after_answer
   clock8 = refl
 
   -- the link of another input server is as it was
-  pub link_other8 : (i : ℕ) → (a ≡ i → ⊥) → link (after_answer drift a w o v x e stamp len ps O) i ≡ link O i
+  pub link_other8 : (i : ℕ) → (a ≡ i → ⊥) → link (after_answer drift a y O) i ≡ link O i
   unfolding after_answer
-  link_other8 i n = get_or-set_other O.links a i (answered drift w o v e stamp len ps (link O a)) no_link (λ h. n (sym h))
+  link_other8 i n = get_or-set_other O.links a i (answered drift y (link O a)) no_link (λ h. n (sym h))
 
   pub link_own8 : a < length O.links
-      → link (after_answer drift a w o v x e stamp len ps O) a ≡ answered drift w o v e stamp len ps (link O a)
+      → link (after_answer drift a y O) a ≡ answered drift y (link O a)
   unfolding after_answer
-  link_own8 h = get_or-set_same O.links a (answered drift w o v e stamp len ps (link O a)) no_link h
+  link_own8 h = get_or-set_same O.links a (answered drift y (link O a)) no_link h
 
   -- what is known, and a lease's epoch and end, never fall
-  pub known_up8 : (i p : ℕ) → (copy_of (link O i) p).known.0 ≤ (copy_of (link (after_answer drift a w o v x e stamp len ps O) i) p).known.0
+  pub known_up8 : (i p : ℕ) → (copy_of (link O i) p).known.0 ≤ (copy_of (link (after_answer drift a y O) i) p).known.0
   unfolding after_answer
-  known_up8 i p = changed (λ l m. (copy_of l p).known.0 ≤ (copy_of m p).known.0) O.links a i (answered drift w o v e stamp len ps (link O a))
-      (λ l. omega arith) (answered_up drift w o v e stamp len ps (link O a) p)
+  known_up8 i p = changed (λ l m. (copy_of l p).known.0 ≤ (copy_of m p).known.0) O.links a i (answered drift y (link O a))
+      (λ l. omega arith) (answered_up drift y (link O a) p)
 
-  pub lease_epoch_up8 : (i : ℕ) → (link O i).epoch.0 ≤ (link (after_answer drift a w o v x e stamp len ps O) i).epoch.0
+  pub lease_epoch_up8 : (i : ℕ) → (link O i).epoch.0 ≤ (link (after_answer drift a y O) i).epoch.0
   unfolding after_answer
-  lease_epoch_up8 i = changed (λ l m. l.epoch.0 ≤ m.epoch.0) O.links a i (answered drift w o v e stamp len ps (link O a))
-      (λ l. omega arith) (answered_epoch_up drift w o v e stamp len ps (link O a))
+  lease_epoch_up8 i = changed (λ l m. l.epoch.0 ≤ m.epoch.0) O.links a i (answered drift y (link O a))
+      (λ l. omega arith) (answered_epoch_up drift y (link O a))
 
-  pub lease_end_up8 : (i : ℕ) → (link O i).until.0 ≤ (link (after_answer drift a w o v x e stamp len ps O) i).until.0
+  pub lease_end_up8 : (i : ℕ) → (link O i).until.0 ≤ (link (after_answer drift a y O) i).until.0
   unfolding after_answer
-  lease_end_up8 i = changed (λ l m. l.until.0 ≤ m.until.0) O.links a i (answered drift w o v e stamp len ps (link O a))
-      (λ l. omega arith) (answered_until_up drift w o v e stamp len ps (link O a))
+  lease_end_up8 i = changed (λ l m. l.until.0 ≤ m.until.0) O.links a i (answered drift y (link O a))
+      (λ l. omega arith) (answered_until_up drift y (link O a))
 
   -- a lease ends where it did, or where the one that the answer gave ends
-  pub until_bound8 : (i : ℕ) → (link (after_answer drift a w o v x e stamp len ps O) i).until.0
-      ≤ max (link O i).until.0 (lease_end stamp.0 len drift).0
+  pub until_bound8 : (i : ℕ) → (link (after_answer drift a y O) i).until.0
+      ≤ max (link O i).until.0 (lease_end y.renewal.stamp.0 y.length drift).0
   unfolding after_answer
-  until_bound8 i = changed (λ l m. m.until.0 ≤ max l.until.0 (lease_end stamp.0 len drift).0) O.links a i
-      (answered drift w o v e stamp len ps (link O a)) (λ l. omega arith)
-      (elim (answered_until drift w o v e stamp len ps (link O a)) [
+  until_bound8 i = changed (λ l m. m.until.0 ≤ max l.until.0 (lease_end y.renewal.stamp.0 y.length drift).0) O.links a i
+      (answered drift y (link O a)) (λ l. omega arith)
+      (elim (answered_until drift y (link O a)) [
         | inl h ↦ let k = ap (λ (t : Time). t.0) h in omega arith
         | inr h ↦ let k = ap (λ (t : Time). t.0) h.2 in omega arith
       ])
 
   -- the newest of an object is as it was, or is what the answer gave
-  pub newest8 : (p : ℕ) → (newest_of (after_answer drift a w o v x e stamp len ps O) p ≡ newest_of O p)
-      ⊎ ((p ≡ o) × (asks_object w ≡ true) × ((newest_of (after_answer drift a w o v x e stamp len ps O) p).version ≡ v)
-      × ((newest_of (after_answer drift a w o v x e stamp len ps O) p).value ≡ x))
+  pub newest8 : (p : ℕ) → (newest_of (after_answer drift a y O) p ≡ newest_of O p)
+      ⊎ ((p ≡ y.renewal.object) × (asks_object y.renewal.parts ≡ true) × ((newest_of (after_answer drift a y O) p).version ≡ y.version)
+      × ((newest_of (after_answer drift a y O) p).value ≡ y.value))
   unfolding after_answer
-  newest8 p = cond_both (accepts w o v (hears_all ps (link O a)) && ltb (newest_of O o).version.0 v.0)
-      (set O.newest o (record { version = v; value = x })) O.newest
+  newest8 p = cond_both (accepts y (hears_all (list_of y.list) (link O a)) && ltb (newest_of O y.renewal.object).version.0 y.version.0)
+      (set O.newest y.renewal.object (record { version = y.version; value = y.value })) O.newest
       (λ (ns : List Newest). (get_or ns p no_newest ≡ newest_of O p)
-      ⊎ ((p ≡ o) × (asks_object w ≡ true) × ((get_or ns p no_newest).version ≡ v) × ((get_or ns p no_newest).value ≡ x)))
-      (λ t. elim (set_from O.newest o p (record { version = v; value = x }) no_newest) [
+      ⊎ ((p ≡ y.renewal.object) × (asks_object y.renewal.parts ≡ true) × ((get_or ns p no_newest).version ≡ y.version) × ((get_or ns p no_newest).value ≡ y.value)))
+      (λ t. elim (set_from O.newest y.renewal.object p (record { version = y.version; value = y.value }) no_newest) [
         | inl h ↦ inl h
         | inr h ↦ inr (
           sym h.0,
-          (and_parts (asks_object w) (leb (copy_of (hears_all ps (link O a)) o).known.0 v.0)
-              (and_parts (accepts w o v (hears_all ps (link O a))) (ltb (newest_of O o).version.0 v.0) t).0).0,
+          (and_parts (asks_object y.renewal.parts) (leb (copy_of (hears_all (list_of y.list) (link O a)) y.renewal.object).known.0 y.version.0)
+              (and_parts (accepts y (hears_all (list_of y.list) (link O a))) (ltb (newest_of O y.renewal.object).version.0 y.version.0) t).0).0,
           ap (λ (n : Newest). n.version) h.1,
           ap (λ (n : Newest). n.value) h.1,
         )
@@ -480,74 +480,74 @@ module _ (drift a : ℕ) (w : Parts) (o : ℕ) (v : Version) (x : ℕ) (e : Epoc
       (λ _. inl refl)
 
   -- the newest version never falls
-  pub newest_up8 : (p : ℕ) → (newest_of O p).version.0 ≤ (newest_of (after_answer drift a w o v x e stamp len ps O) p).version.0
+  pub newest_up8 : (p : ℕ) → (newest_of O p).version.0 ≤ (newest_of (after_answer drift a y O) p).version.0
   unfolding after_answer
-  newest_up8 p = cond_both (accepts w o v (hears_all ps (link O a)) && ltb (newest_of O o).version.0 v.0)
-      (set O.newest o (record { version = v; value = x })) O.newest
+  newest_up8 p = cond_both (accepts y (hears_all (list_of y.list) (link O a)) && ltb (newest_of O y.renewal.object).version.0 y.version.0)
+      (set O.newest y.renewal.object (record { version = y.version; value = y.value })) O.newest
       (λ (ns : List Newest). (newest_of O p).version.0 ≤ (get_or ns p no_newest).version.0)
-      (λ t. elim (set_from O.newest o p (record { version = v; value = x }) no_newest) [
+      (λ t. elim (set_from O.newest y.renewal.object p (record { version = y.version; value = y.value }) no_newest) [
         | inl h ↦ subst (λ (n : Newest). (newest_of O p).version.0 ≤ n.version.0) (sym h) (omega arith)
         | inr h ↦ subst (λ (n : Newest). (newest_of O p).version.0 ≤ n.version.0) (sym h.1)
-            (subst (λ (q : ℕ). (newest_of O q).version.0 ≤ v.0) h.0
-            (let b = ltb-true (newest_of O o).version.0 v.0
-            (and_parts (accepts w o v (hears_all ps (link O a))) (ltb (newest_of O o).version.0 v.0) t).1 in
+            (subst (λ (q : ℕ). (newest_of O q).version.0 ≤ y.version.0) h.0
+            (let b = ltb-true (newest_of O y.renewal.object).version.0 y.version.0
+            (and_parts (accepts y (hears_all (list_of y.list) (link O a))) (ltb (newest_of O y.renewal.object).version.0 y.version.0) t).1 in
             omega arith))
       ])
       (λ _. omega arith)
 
   -- the lists keep their lengths
-  pub shape8 : OutputShape O → OutputShape (after_answer drift a w o v x e stamp len ps O)
+  pub shape8 : OutputShape O → OutputShape (after_answer drift a y O)
   unfolding after_answer
   shape8 s = record {
-    newest = cond_both (accepts w o v (hears_all ps (link O a)) && ltb (newest_of O o).version.0 v.0)
-        (set O.newest o (record { version = v; value = x })) O.newest (λ (ns : List Newest). length ns ≡ 16)
-        (λ _. length-set O.newest o (record { version = v; value = x }) ∙ s.newest) (λ _. s.newest);
-    links = length-set O.links a (answered drift w o v e stamp len ps (link O a)) ∙ s.links;
-    copies = λ i b. changed (λ l m. length m.copies ≡ length l.copies) O.links a i (answered drift w o v e stamp len ps (link O a))
-        (λ l. refl) (answered_copies drift w o v e stamp len ps (link O a)) ∙ s.copies i b;
+    newest = cond_both (accepts y (hears_all (list_of y.list) (link O a)) && ltb (newest_of O y.renewal.object).version.0 y.version.0)
+        (set O.newest y.renewal.object (record { version = y.version; value = y.value })) O.newest (λ (ns : List Newest). length ns ≡ 16)
+        (λ _. length-set O.newest y.renewal.object (record { version = y.version; value = y.value }) ∙ s.newest) (λ _. s.newest);
+    links = length-set O.links a (answered drift y (link O a)) ∙ s.links;
+    copies = λ i b. changed (λ l m. length m.copies ≡ length l.copies) O.links a i (answered drift y (link O a))
+        (λ l. refl) (answered_copies drift y (link O a)) ∙ s.copies i b;
   }
 
   -- the channel of another input server
   pub moves8_other : (L R : ℕ) (I : Input) (i j : ℕ) (log : List Message) (l : Pairs) → (a ≡ i → ⊥)
-      → Moves L R (view_of I O i j log) (view_of I (after_answer drift a w o v x e stamp len ps O) i j (log ++ acknowledgement j a l))
-  moves8_other L R I i j log l n = out_still L R I O (after_answer drift a w o v x e stamp len ps O) i j log (acknowledgement j a l)
+      → Moves L R (view_of I O i j log) (view_of I (after_answer drift a y O) i j (log ++ acknowledgement j a l))
+  moves8_other L R I i j log l n = out_still L R I O (after_answer drift a y O) i j log (acknowledgement j a l)
       (link_other8 i n) clock8 (quiet_ack_to i j a j l n)
 
 -- the channel of the input server that answers
-pub moves8_own : (L drift : ℕ) (w : Parts) (o : ℕ) (v : Version) (x : ℕ) (e : Epoch) (stamp : Time) (len : ℕ) (l : Pairs)
+pub moves8_own : (L drift : ℕ) (y : Renewed)
     (I : Input) (O : Output) (i j : ℕ) (log : List Message)
-    → OutputShape O → i < 8 → All (λ (p : Pair). p.object < 16) (list_of l) → In (RenewalAnswer i j w o v x e stamp len l) log
+    → OutputShape O → i < 8 → All (λ (p : Pair). p.object < 16) (list_of y.list) → In (RenewalAnswer i j y) log
     → Moves L (1000 - drift) (view_of I O i j log)
-    (view_of I (after_answer drift i w o v x e stamp len (list_of l) O) i j (log ++ acknowledgement j i l))
-moves8_own L drift w o v x e stamp len l I O i j log s b inside sent =
-    link_moves L (1000 - drift) I O (after_answer drift i w o v x e stamp len (list_of l) O) i j log (acknowledgement j i l) k (list_of l)
-    (link_own8 drift i w o v x e stamp len (list_of l) O (omega arith))
-    (clock8 drift i w o v x e stamp len (list_of l) O)
+    (view_of I (after_answer drift i y O) i j (log ++ acknowledgement j i y.list))
+moves8_own L drift y I O i j log s b inside sent =
+    link_moves L (1000 - drift) I O (after_answer drift i y O) i j log (acknowledgement j i y.list) k (list_of y.list)
+    (link_own8 drift i y O (omega arith))
+    (clock8 drift i y O)
     (record {
-      known_up = answered_up drift w o v e stamp len (list_of l) (link O i);
-      epoch_up = answered_epoch_up drift w o v e stamp len (list_of l) (link O i);
+      known_up = answered_up drift y (link O i);
+      epoch_up = answered_epoch_up drift y (link O i);
       got_from = got;
       copy_from = copied;
       until_from = until;
     })
-    (λ p h. (ack_says i j i j l p h).2)
+    (λ p h. (ack_says i j i j y.list p h).2)
     told
   where
     k : Link
-    k = answered drift w o v e stamp len (list_of l) (link O i)
+    k = answered drift y (link O i)
 
-    told : (q u : ℕ) → Has q u (list_of l) → u ≤ (copy_of k q).known.0
-    told = answered_told drift w o v e stamp len (list_of l) (link O i)
-        (subst (λ (n : ℕ). All (λ (p : Pair). p.object < n) (list_of l)) (sym (s.copies i b)) inside)
+    told : (q u : ℕ) → Has q u (list_of y.list) → u ≤ (copy_of k q).known.0
+    told = answered_told drift y (link O i)
+        (subst (λ (n : ℕ). All (λ (p : Pair). p.object < n) (list_of y.list)) (sym (s.copies i b)) inside)
 
     got : (p : ℕ) → ((copy_of k p).got.0 ≡ (copy_of (link O i) p).got.0)
         ⊎ ((d : ℕ) × Any (Says i j (copy p (copy_of k p).got.0 d)) log × ((copy_of k p).got.0 ≤ (copy_of k p).known.0))
-    got p = elim (answered_got drift w o v e stamp len (list_of l) (link O i) p) [
+    got p = elim (answered_got drift y (link O i) p) [
       | inl h ↦ inl (ap (λ (y : Version). y.0) h)
       | inr h ↦ let c = ap (λ (y : Version). y.0) h.2 in let d = ap (λ (y : Version). y.0) h.3 in
           inr (
-            e.0,
-            in_any (Says i j (copy p (copy_of k p).got.0 e.0)) (RenewalAnswer i j w o v x e stamp len l) log sent
+            y.epoch.0,
+            in_any (Says i j (copy p (copy_of k p).got.0 y.epoch.0)) (RenewalAnswer i j y) log sent
                 (refl, refl, inl (h.1, (sym h.0, c, refl))),
             omega arith,
           )
@@ -555,12 +555,12 @@ moves8_own L drift w o v x e stamp len l I O i j log s b inside sent =
 
     copied : (p : ℕ) → ((copy_of k p).epoch.0 ≡ (copy_of (link O i) p).epoch.0)
         ⊎ ((u : ℕ) × Any (Says i j (copy p u (copy_of k p).epoch.0)) log × (u ≤ (copy_of k p).known.0))
-    copied p = elim (answered_epoch drift w o v e stamp len (list_of l) (link O i) p) [
+    copied p = elim (answered_epoch drift y (link O i) p) [
       | inl h ↦ inl (ap (λ (y : Epoch). y.0) h)
       | inr h ↦ let c = ap (λ (y : Epoch). y.0) h.2 in let d = ap (λ (y : Version). y.0) h.3 in
           inr (
-            v.0,
-            in_any (Says i j (copy p v.0 (copy_of k p).epoch.0)) (RenewalAnswer i j w o v x e stamp len l) log sent
+            y.version.0,
+            in_any (Says i j (copy p y.version.0 (copy_of k p).epoch.0)) (RenewalAnswer i j y) log sent
                 (refl, refl, inl (h.1, (sym h.0, refl, c))),
             omega arith,
           )
@@ -568,14 +568,14 @@ moves8_own L drift w o v x e stamp len l I O i j log s b inside sent =
 
     until : (k.until.0 ≡ (link O i).until.0)
         ⊎ Grant (1000 - drift) (view_of I O i j log) k.until.0 k.epoch.0 (λ q. (copy_of k q).known.0)
-    until = elim (answered_until drift w o v e stamp len (list_of l) (link O i)) [
+    until = elim (answered_until drift y (link O i)) [
       | inl h ↦ inl (ap (λ (t : Time). t.0) h)
       | inr h ↦ inr (record {
-        s = stamp.0;
-        l = len;
-        e = e.0;
-        ps = list_of l;
-        sent = in_any (Says i j (lease stamp.0 len e.0 (list_of l))) (RenewalAnswer i j w o v x e stamp len l) log sent
+        s = y.renewal.stamp.0;
+        l = y.length;
+        e = y.epoch.0;
+        ps = list_of y.list;
+        sent = in_any (Says i j (lease y.renewal.stamp.0 y.length y.epoch.0 (list_of y.list))) (RenewalAnswer i j y) log sent
             (refl, refl, inr (h.0, h.1, (refl, refl, refl, refl)));
         ends = sym (ap (λ (t : Time). t.0) h.2);
         old = h.3;
@@ -672,10 +672,10 @@ quiet9 i j a b o v n p h = elim h [ inl y ↦ n y.1 | inr y ↦ y ]
 
 module _ (sys : System) (b p n o : ℕ) (O : Output) where
   abbrev renewal : ℕ → Message
-  renewal k = RenewalRequest b k (parts_of (not (sound O o k)) (not (leased O k))) o O.clock
+  renewal k = RenewalRequest b k (wanted o O k)
 
   -- what it asks of the input servers bears its clock
-  asked_renewals : (i j : ℕ) (q : Part) → Any (Says i j q) (renewals b n o O) → (b ≡ j) × IsAsked O.clock.0 q
+  asked_renewals : (i j : ℕ) (q : Part) → Any (Says i j q) (asks_all b n o O) → (b ≡ j) × IsAsked O.clock.0 q
   asked_renewals i j q h =
       let r = each_any (Says i j q) n (λ k. cond (good O o k) [] (renewal k ∷ [])) h in
       one r.0 r.2
@@ -685,21 +685,21 @@ module _ (sys : System) (b p n o : ℕ) (O : Output) where
           (λ _ x. absurd x) (λ _ x. elim x [ inl y ↦ (y.1, y.3) | inr y ↦ absurd y ])
 
   pub asked5 : (i j : ℕ) (q : Part) → Any (Says i j q) (answers_read sys b p n o O) → (b ≡ j) × IsAsked O.clock.0 q
-  asked5 i j q = cond_both (valid sys n o O) (ReadAnswer b p (newest_of O o).version (newest_of O o).value ∷ []) (renewals b n o O)
+  asked5 i j q = cond_both (valid sys n o O) (ReadAnswer b p (newest_of O o).version (newest_of O o).value ∷ []) (asks_all b n o O)
       (λ (new : List Message). Any (Says i j q) new → (b ≡ j) × IsAsked O.clock.0 q)
       (λ _ x. elim x [ inl y ↦ absurd y | inr y ↦ absurd y ]) (λ _. asked_renewals i j q)
 
   -- a read answer only where the copy is valid, and renewal requests with its clock
   pub read_all : (P : Message → Type 0) → (valid sys n o O ≡ true → P (ReadAnswer b p (newest_of O o).version (newest_of O o).value))
-      → ((i : ℕ) → i < n → (w : Parts) → P (RenewalRequest b i w o O.clock)) → All P (answers_read sys b p n o O)
-  read_all P f g = cond_both (valid sys n o O) (ReadAnswer b p (newest_of O o).version (newest_of O o).value ∷ []) (renewals b n o O)
+      → ((i : ℕ) → i < n → P (RenewalRequest b i (wanted o O i))) → All P (answers_read sys b p n o O)
+  read_all P f g = cond_both (valid sys n o O) (ReadAnswer b p (newest_of O o).version (newest_of O o).value ∷ []) (asks_all b n o O)
       (λ (new : List Message). All P new) (λ h. (f h, tt))
       (λ _. each_all P n (λ k. cond (good O o k) [] (renewal k ∷ []))
       (λ k l. cond_both (good O o k) [] (renewal k ∷ []) (λ (new : List Message). All P new) (λ _. tt)
-      (λ _. (g k l (parts_of (not (sound O o k)) (not (leased O k))), tt))))
+      (λ _. (g k l, tt))))
 
   pub read_length : 1 ≤ n → length (answers_read sys b p n o O) ≤ n
-  read_length l = cond_both (valid sys n o O) (ReadAnswer b p (newest_of O o).version (newest_of O o).value ∷ []) (renewals b n o O)
+  read_length l = cond_both (valid sys n o O) (ReadAnswer b p (newest_of O o).version (newest_of O o).value ∷ []) (asks_all b n o O)
       (λ (new : List Message). length new ≤ n) (λ _. omega arith)
       (λ _. each_length n (λ k. cond (good O o k) [] (renewal k ∷ []))
       (λ k. cond_both (good O o k) [] (renewal k ∷ []) (λ (new : List Message). length new ≤ 1) (λ _. omega arith) (λ _. omega arith)))

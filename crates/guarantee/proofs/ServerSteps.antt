@@ -6,13 +6,15 @@ use Rattle.rules.specs.declared.kept.Copied.{Copied}
 use Rattle.rules.specs.declared.kept.Held.{Held}
 use Rattle.rules.specs.declared.kept.Link.{Link}
 use Rattle.rules.specs.declared.kept.Newest.{Newest}
-use Rattle.rules.specs.declared.parts.Parts.{Parts}
+use Rattle.rules.specs.declared.renewal.Renewal.{Renewal}
+use Rattle.rules.specs.declared.renewal.Renewed.{Renewed}
 use Rattle.rules.specs.declared.pairs.Pair.{Pair}
 use Rattle.numbers.specs.declared.time.Time.{Time}
 use Rattle.numbers.specs.declared.version.Version.{Version}
 use Rattle.rules.specs.Input.{Input, no_held, no_ledger, held, ledger, chain, queued, fits, owed, with_chain, takes_write, queues_for, queues_all, after_write, after_renewal, acknowledges, acknowledges_all, later_input}
 use Rattle.numbers.specs.Numbers.{none, raised, clock_of, later, lease_end, last_time, longest}
 use Rattle.rules.specs.Output.{Output, no_copy, no_link, link, copy_of, with_copy, hears, hears_all, accepts, takes_copy, takes_lease, after_answer, after_invalidation, later_output}
+use Rattle.rules.specs.Lists.{list_of}
 use Rattle.rules.specs.Renewals.{asks_volume}
 use Rattle.guarantee.specs.Bounds.{IsBetween, IsVersion, IsPair, ChainBounds, InputBounds, OutputBounds}
 use Rattle.guarantee.specs.Laws.{InputRises, OutputRises, LeavesOthers}
@@ -119,18 +121,18 @@ write_bounds lease made count m o v x I b l y some =
     same_version : (held (after_write m o v x I) o).version ≡ (held (takes_write o v x I) o).version
     same_version = ap (λ (r : List Held). (get_or r o no_held).version) (swept o m (takes_write o v x I)).objects
 
-pub renewal_bounds : (lease made b : ℕ) (a : Parts) (o : ℕ) (I : Input) → InputBounds lease made I → InputBounds lease made (after_renewal lease b a o I)
-renewal_bounds lease made b a o I h =
-    let s = Ins.shape7 lease b a o I (shape_in lease made I h) in
+pub renewal_bounds : (lease made b : ℕ) (r : Renewal) (I : Input) → InputBounds lease made I → InputBounds lease made (after_renewal lease b r I)
+renewal_bounds lease made b r I h =
+    let s = Ins.shape7 lease b r I (shape_in lease made I h) in
     record {
       objects = s.objects;
       ledgers = s.ledgers;
       acked = s.acked;
       clock = h.clock;
       highest = h.highest;
-      version = λ p l. subst IsVersion (sym (Ins.held7 lease b a o I p).0) (h.version p l);
-      epoch = λ j l. subst (λ (e : Epoch). IsBetween 1 (made + 1) e.0) (sym (Ins.epoch7 lease b a o I j)) (h.epoch j l);
-      until = λ j. elim (Ins.until7 lease b a o I j) [
+      version = λ p l. subst IsVersion (sym (Ins.held7 lease b r I p).0) (h.version p l);
+      epoch = λ j l. subst (λ (e : Epoch). IsBetween 1 (made + 1) e.0) (sym (Ins.epoch7 lease b r I j)) (h.epoch j l);
+      until = λ j. elim (Ins.until7 lease b r I j) [
         | inl e ↦ let u = ap (λ (t : Time). t.0) e in omega (arith, h.until j)
         | inr e ↦ omega (arith, e)
       ];
@@ -196,13 +198,13 @@ write_rises m o v x I = record {
   epoch = λ j. (Ins.epoch3 m o v x I j).0;
 }
 
-pub renewal_rises : (lease b : ℕ) (a : Parts) (o : ℕ) (I : Input) → InputRises I (after_renewal lease b a o I)
-renewal_rises lease b a o I = record {
+pub renewal_rises : (lease b : ℕ) (r : Renewal) (I : Input) → InputRises I (after_renewal lease b r I)
+renewal_rises lease b r I = record {
   clock = omega arith;
   highest = omega arith;
-  held = λ p. let e = ap (λ (w : Version). w.0) (Ins.held7 lease b a o I p).0 in omega arith;
-  acked = λ j p. omega (arith, Ins.acked7 lease b a o I j p);
-  epoch = λ j. let e = ap (λ (d : Epoch). d.0) (Ins.epoch7 lease b a o I j) in omega arith;
+  held = λ p. let e = ap (λ (w : Version). w.0) (Ins.held7 lease b r I p).0 in omega arith;
+  acked = λ j p. omega (arith, Ins.acked7 lease b r I j p);
+  epoch = λ j. let e = ap (λ (d : Epoch). d.0) (Ins.epoch7 lease b r I j) in omega arith;
 }
 
 pub ack_rises : (b : ℕ) (ps : List Pair) (I : Input) → InputRises I (acknowledges_all b ps I)
@@ -257,16 +259,16 @@ end_bound stamp len drift h k =
     let z : len * (1000 - drift) ≤ len * 1000 = mul-le-mul_left len few in
     omega arith
 
-pub answer_bounds : (drift a : ℕ) (w : Parts) (o : ℕ) (v : Version) (x : ℕ) (e : Epoch) (stamp : Time) (len : ℕ) (ps : List Pair) (O : Output)
-    → OutputBounds O → stamp.0 ≤ last_time → len ≤ longest → OutputBounds (after_answer drift a w o v x e stamp len ps O)
-answer_bounds drift a w o v x e stamp len ps O b h k =
-    let s = Outs.shape8 drift a w o v x e stamp len ps O (shape_out O b) in
+pub answer_bounds : (drift a : ℕ) (y : Renewed) (O : Output)
+    → OutputBounds O → y.renewal.stamp.0 ≤ last_time → y.length ≤ longest → OutputBounds (after_answer drift a y O)
+answer_bounds drift a y O b h k =
+    let s = Outs.shape8 drift a y O (shape_out O b) in
     record {
       newest = s.newest;
       links = s.links;
       copies = s.copies;
-      clock = subst (λ (t : Time). t.0 ≤ last_time) (sym (Outs.clock8 drift a w o v x e stamp len ps O)) b.clock;
-      until = λ i. omega (arith, Outs.until_bound8 drift a w o v x e stamp len ps O i, b.until i, end_bound stamp.0 len drift h k);
+      clock = subst (λ (t : Time). t.0 ≤ last_time) (sym (Outs.clock8 drift a y O)) b.clock;
+      until = λ i. omega (arith, Outs.until_bound8 drift a y O i, b.until i, end_bound y.renewal.stamp.0 y.length drift h k);
     }
 
 pub told_bounds : (a o : ℕ) (v : Version) (O : Output) → OutputBounds O → OutputBounds (after_invalidation a o v O)
@@ -310,20 +312,20 @@ later_up : (e to : Epoch) → e.0 ≤ (later e to).0
 later_up e to = cond_both (ltb e.0 to.0) to e (λ (x : Epoch). e.0 ≤ x.0)
     (λ h. omega (arith, ltb-true e.0 to.0 h)) (λ _. omega arith)
 
-takes_rises : (w : Parts) (o : ℕ) (v : Version) (e : Epoch) (l : Link) → EpochsRise l (takes_copy w o v e l)
-takes_rises w o v e l = cond_both (accepts w o v l)
-    (with_copy o (record { got = v; known = v; epoch = later (copy_of l o).epoch e }) l) l (EpochsRise l)
-    (λ _. copy_rises o (record { got = v; known = v; epoch = later (copy_of l o).epoch e }) l (later_up (copy_of l o).epoch e))
-    (λ _ p. omega arith)
+takes_rises : (y : Renewed) (l : Link) → EpochsRise l (takes_copy y l)
+takes_rises y l =
+    let o = y.renewal.object in
+    let c : Copied = record { got = y.version; known = y.version; epoch = later (copy_of l o).epoch y.epoch } in
+    cond_both (accepts y l) (with_copy o c l) l (EpochsRise l) (λ _. copy_rises o c l (later_up (copy_of l o).epoch y.epoch)) (λ _ p. omega arith)
 
-leases_copies : (w : Parts) (e : Epoch) (stamp : Time) (len drift : ℕ) (l : Link) → (takes_lease w e stamp len drift l).copies ≡ l.copies
-leases_copies w e stamp len drift l = cond_both (asks_volume w) _ l (λ (k : Link). k.copies ≡ l.copies) (λ _. refl) (λ _. refl)
+leases_copies : (drift : ℕ) (y : Renewed) (l : Link) → (takes_lease drift y l).copies ≡ l.copies
+leases_copies drift y l = cond_both (asks_volume y.renewal.parts) _ l (λ (k : Link). k.copies ≡ l.copies) (λ _. refl) (λ _. refl)
 
-answered_rises : (drift : ℕ) (w : Parts) (o : ℕ) (v : Version) (e : Epoch) (stamp : Time) (len : ℕ) (ps : List Pair) (l : Link)
-    → EpochsRise l (takes_lease w e stamp len drift (takes_copy w o v e (hears_all ps l)))
-answered_rises drift w o v e stamp len ps l p =
-    let c = ap (λ (cs : List Copied). (get_or cs p no_copy).epoch.0) (leases_copies w e stamp len drift (takes_copy w o v e (hears_all ps l))) in
-    omega (arith, hears_all_rises ps l p, takes_rises w o v e (hears_all ps l) p)
+answered_rises : (drift : ℕ) (y : Renewed) (l : Link) → EpochsRise l (takes_lease drift y (takes_copy y (hears_all (list_of y.list) l)))
+answered_rises drift y l p =
+    let k = hears_all (list_of y.list) l in
+    let c = ap (λ (cs : List Copied). (get_or cs p no_copy).epoch.0) (leases_copies drift y (takes_copy y k)) in
+    omega (arith, hears_all_rises (list_of y.list) l p, takes_rises y k p)
 
 pub output_same : (O : Output) → OutputRises O O
 output_same O = record {
@@ -345,22 +347,22 @@ output_then O Q R a b = record {
   end_of_lease = λ i. omega (arith, a.end_of_lease i, b.end_of_lease i);
 }
 
-copies8 : (drift a : ℕ) (w : Parts) (o : ℕ) (v : Version) (x : ℕ) (e : Epoch) (stamp : Time) (len : ℕ) (ps : List Pair) (O : Output) (i p : ℕ)
-    → (copy_of (link O i) p).epoch.0 ≤ (copy_of (link (after_answer drift a w o v x e stamp len ps O) i) p).epoch.0
+copies8 : (drift a : ℕ) (y : Renewed) (O : Output) (i p : ℕ)
+    → (copy_of (link O i) p).epoch.0 ≤ (copy_of (link (after_answer drift a y O) i) p).epoch.0
 unfolding after_answer
-copies8 drift a w o v x e stamp len ps O i =
-    changed EpochsRise O.links a i (takes_lease w e stamp len drift (takes_copy w o v e (hears_all ps (link O a)))) no_link
-    (λ l p. omega arith) (answered_rises drift w o v e stamp len ps (link O a))
+copies8 drift a y O i =
+    changed EpochsRise O.links a i (takes_lease drift y (takes_copy y (hears_all (list_of y.list) (link O a)))) no_link
+    (λ l p. omega arith) (answered_rises drift y (link O a))
 
-pub answer_rises : (drift a : ℕ) (w : Parts) (o : ℕ) (v : Version) (x : ℕ) (e : Epoch) (stamp : Time) (len : ℕ) (ps : List Pair) (O : Output)
-    → OutputRises O (after_answer drift a w o v x e stamp len ps O)
-answer_rises drift a w o v x e stamp len ps O = record {
-  clock = let c = ap (λ (t : Time). t.0) (Outs.clock8 drift a w o v x e stamp len ps O) in omega arith;
-  newest = Outs.newest_up8 drift a w o v x e stamp len ps O;
-  known = Outs.known_up8 drift a w o v x e stamp len ps O;
-  copy_epoch = copies8 drift a w o v x e stamp len ps O;
-  lease_epoch = Outs.lease_epoch_up8 drift a w o v x e stamp len ps O;
-  end_of_lease = Outs.lease_end_up8 drift a w o v x e stamp len ps O;
+pub answer_rises : (drift a : ℕ) (y : Renewed) (O : Output)
+    → OutputRises O (after_answer drift a y O)
+answer_rises drift a y O = record {
+  clock = let c = ap (λ (t : Time). t.0) (Outs.clock8 drift a y O) in omega arith;
+  newest = Outs.newest_up8 drift a y O;
+  known = Outs.known_up8 drift a y O;
+  copy_epoch = copies8 drift a y O;
+  lease_epoch = Outs.lease_epoch_up8 drift a y O;
+  end_of_lease = Outs.lease_end_up8 drift a y O;
 }
 
 copies9 : (a o : ℕ) (v : Version) (O : Output) (i p : ℕ)

@@ -5,6 +5,8 @@ use Rattle.quorum.specs.declared.member_set.MemberSet.{MemberSet}
 use Rattle.quorum.specs.Sets.{has, joined, set_of}
 use Rattle.quorum.specs.Systems.{Lawful}
 use Rattle.rules.specs.declared.message.Message.{Message}
+use Rattle.rules.specs.declared.renewal.Renewal.{Renewal}
+use Rattle.rules.specs.declared.renewal.Renewed.{Renewed}
 use Rattle.rules.specs.declared.message.Message.TheVariants.{ClockQuestion, ClockAnswer, WriteRequest, WriteAnswer, ReadRequest, ReadAnswer, RenewalRequest, RenewalAnswer, Invalidation, InvalidationAnswer}
 use Rattle.numbers.specs.declared.version.Version.{Version}
 use Rattle.rules.specs.Input.{after_write}
@@ -34,8 +36,8 @@ sent_is P W a = refl
 pub record Plain (X : Message → Type 0) : Type 0 where
   pub requests : (p i o : ℕ) (v : Version) (x : ℕ) → X (WriteRequest p i o v x)
   pub answers : (i p : ℕ) (t : MemberSet) → X (WriteAnswer i p t)
-  pub renewal_requests : (j i : ℕ) (a : _) (o : ℕ) (s : _) → X (RenewalRequest j i a o s)
-  pub renewal_answers : (i j : ℕ) (a : _) (o : ℕ) (v : Version) (x : ℕ) (e : _) (s : _) (n : ℕ) (l : _) → X (RenewalAnswer i j a o v x e s n l)
+  pub renewal_requests : (j i : ℕ) (r : Renewal) → X (RenewalRequest j i r)
+  pub renewal_answers : (i j : ℕ) (y : Renewed) → X (RenewalAnswer i j y)
   pub invalidations : (i j o : ℕ) (v : Version) → X (Invalidation i j o v)
   pub invalidation_answers : (j i : ℕ) (l : _) → X (InvalidationAnswer j i l)
 
@@ -59,10 +61,10 @@ news_plain X f P W cq rq (hears (WriteRequest p i o v x)) ca ra =
     Ins.names3 X i p P.counts.m o (after_write P.counts.m o v x (W.inp i)) (λ j. f.invalidations i j o _) (f.answers i p _)
 news_plain X f P W cq rq (hears (WriteAnswer i p t)) ca ra = reaction_plain X f P (WriteAnswer i p t) (W.op p)
 news_plain X f P W cq rq (hears (ReadRequest p j o)) ca ra =
-    Outs.read_all P.inputs j p P.counts.n o (W.out j) X (ra p j o refl) (λ i l w. f.renewal_requests j i w o _)
+    Outs.read_all P.inputs j p P.counts.n o (W.out j) X (ra p j o refl) (λ i l. f.renewal_requests j i _)
 news_plain X f P W cq rq (hears (ReadAnswer j p v x)) ca ra = reaction_plain X f P (ReadAnswer j p v x) (W.op p)
-news_plain X f P W cq rq (hears (RenewalRequest j i a o stamp)) ca ra = (f.renewal_answers i j a o _ _ _ _ _ _, tt)
-news_plain X f P W cq rq (hears (RenewalAnswer i j a o v x e stamp len l)) ca ra = Outs.ack_all X j i l (f.invalidation_answers j i l)
+news_plain X f P W cq rq (hears (RenewalRequest j i r)) ca ra = (f.renewal_answers i j _, tt)
+news_plain X f P W cq rq (hears (RenewalAnswer i j y)) ca ra = Outs.ack_all X j i y.list (f.invalidation_answers j i y.list)
 news_plain X f P W cq rq (hears (Invalidation i j o v)) ca ra = (f.invalidation_answers j i _, tt)
 news_plain X f P W cq rq (hears (InvalidationAnswer j i l)) ca ra = tt
 
@@ -112,8 +114,8 @@ module _ (P : Params) (small : Small P) (in_lawful : Lawful P.inputs) (out_lawfu
   Late q o w N (WriteAnswer i p t) = Unit {0}
   Late q o w N (ReadRequest p j z) = p ≡ q → z ≡ o
   Late q o w N (ReadAnswer j p v x) = p ≡ q → j < P.counts.m → counts P.inputs P.inputs.count N j ≡ true → w ≤ v.0
-  Late q o w N (RenewalRequest j i a z s) = Unit {0}
-  Late q o w N (RenewalAnswer i j a z v x e s n l) = Unit {0}
+  Late q o w N (RenewalRequest j i r) = Unit {0}
+  Late q o w N (RenewalAnswer i j y) = Unit {0}
   Late q o w N (Invalidation i j z v) = Unit {0}
   Late q o w N (InvalidationAnswer j i l) = Unit {0}
 
@@ -121,8 +123,8 @@ module _ (P : Params) (small : Small P) (in_lawful : Lawful P.inputs) (out_lawfu
   late_plain q o w N = record {
     requests = λ _ _ _ _ _. tt;
     answers = λ _ _ _. tt;
-    renewal_requests = λ _ _ _ _ _. tt;
-    renewal_answers = λ _ _ _ _ _ _ _ _ _ _. tt;
+    renewal_requests = λ _ _ _. tt;
+    renewal_answers = λ _ _ _. tt;
     invalidations = λ _ _ _ _. tt;
     invalidation_answers = λ _ _ _. tt;
   }
@@ -177,8 +179,8 @@ module _ (P : Params) (small : Small P) (in_lawful : Lawful P.inputs) (out_lawfu
   Wise q w N j (WriteAnswer i p t) = Unit {0}
   Wise q w N j (ReadRequest p b z) = Unit {0}
   Wise q w N j (ReadAnswer b p v x) = Unit {0}
-  Wise q w N j (RenewalRequest b i a z s) = Unit {0}
-  Wise q w N j (RenewalAnswer i b a z v x e s n l) = Unit {0}
+  Wise q w N j (RenewalRequest b i r) = Unit {0}
+  Wise q w N j (RenewalAnswer i b y) = Unit {0}
   Wise q w N j (Invalidation i b z v) = Unit {0}
   Wise q w N j (InvalidationAnswer b i l) = Unit {0}
 
@@ -186,8 +188,8 @@ module _ (P : Params) (small : Small P) (in_lawful : Lawful P.inputs) (out_lawfu
   wise_plain q w N j = record {
     requests = λ _ _ _ _ _. tt;
     answers = λ _ _ _. tt;
-    renewal_requests = λ _ _ _ _ _. tt;
-    renewal_answers = λ _ _ _ _ _ _ _ _ _ _. tt;
+    renewal_requests = λ _ _ _. tt;
+    renewal_answers = λ _ _ _. tt;
     invalidations = λ _ _ _ _. tt;
     invalidation_answers = λ _ _ _. tt;
   }

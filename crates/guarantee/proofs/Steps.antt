@@ -82,49 +82,49 @@ module _ (P : Params) (small : Small P) (W : World) (k : Kept P W) (i j : ℕ) (
       (Outs.moves5 L R P.inputs b p P.counts.n o (W.inp i) (W.out j) (W.out b) i j W.sent (λ f. ap W.out f)))
       (λ n q x. n (Outs.asked5 P.inputs b p P.counts.n o (W.out b) i j q x).0)
   moves_hears (ReadAnswer b p v x) h = still _ (quiet_reaction P i j (ReadAnswer b p v x) (W.op p))
-  moves_hears (RenewalRequest b a w o stamp) h = at_input_lem a J new
+  moves_hears (RenewalRequest b a r) h = at_input_lem a J new
       (λ e. elim (cases_eq b j) [
         | inl d ↦ subst₂ (λ (x y : ℕ). Moves L R (view_of (W.inp x) (W.out y) x y W.sent) (view_of J (W.out y) x y (W.sent ++ new))) e d
-            (Ins.moves7_own L R w o stamp (W.inp a) (W.out b) a b W.sent shape (few o f.object) b<8 (k.held_pos a o f.input (few o f.object)) h.0)
+            (Ins.moves7_own L R r (W.inp a) (W.out b) a b W.sent shape (few r.object f.object) b<8 (k.held_pos a r.object f.input (few r.object f.object)) h.0)
         | inr n ↦ subst (λ (x : ℕ). Moves L R (view_of (W.inp x) (W.out j) x j W.sent) (view_of J (W.out j) x j (W.sent ++ new))) e
-            (Ins.moves7_other L R b w o stamp (W.inp a) (W.out j) a j W.sent n)
+            (Ins.moves7_other L R b r (W.inp a) (W.out j) a j W.sent n)
       ])
       (λ n q x. elim x [ inl y ↦ n y.0 | inr y ↦ y ])
     where
-      f : RenewalFits P.counts a b o
-      f = fits_renewal P.counts b a w o stamp h.1
+      f : RenewalFits P.counts a b r
+      f = fits_renewal P.counts b a r h.1
 
       J : Input
-      J = after_renewal L b w o (W.inp a)
+      J = after_renewal L b r (W.inp a)
 
       new : List Message
-      new = answers_renewal a L b w o stamp (W.inp a) ∷ []
+      new = answers_renewal a L b r (W.inp a)
 
       shape : InputShape (W.inp a)
       shape = k.in_shape a f.input
 
       b<8 : b < 8
       b<8 = let z = f.output in let y = small.m_most in omega arith
-  moves_hears (RenewalAnswer a b w o v x e stamp len l) h = at_output_lem b Q (acknowledgement b a l)
+  moves_hears (RenewalAnswer a b y) h = at_output_lem b Q (acknowledgement b a y.list)
       (λ g. elim (cases_eq a i) [
-        | inl d ↦ subst₂ (λ (x y : ℕ). Moves L R (view_of (W.inp x) (W.out y) x y W.sent) (view_of (W.inp x) Q x y (W.sent ++ acknowledgement b a l))) d g
-            (Outs.moves8_own L P.drift w o v x e stamp len l (W.inp a) (W.out b) a b W.sent (k.out_shape b f.output) a<8 inside h.0)
-        | inr n ↦ subst (λ (y : ℕ). Moves L R (view_of (W.inp i) (W.out y) i y W.sent) (view_of (W.inp i) Q i y (W.sent ++ acknowledgement b a l))) g
-            (Outs.moves8_other P.drift a w o v x e stamp len (list_of l) (W.out b) L R (W.inp i) i b W.sent l n)
+        | inl d ↦ subst₂ (λ (x z : ℕ). Moves L R (view_of (W.inp x) (W.out z) x z W.sent) (view_of (W.inp x) Q x z (W.sent ++ acknowledgement b a y.list))) d g
+            (Outs.moves8_own L P.drift y (W.inp a) (W.out b) a b W.sent (k.out_shape b f.output) a<8 inside h.0)
+        | inr n ↦ subst (λ (z : ℕ). Moves L R (view_of (W.inp i) (W.out z) i z W.sent) (view_of (W.inp i) Q i z (W.sent ++ acknowledgement b a y.list))) g
+            (Outs.moves8_other P.drift a y (W.out b) L R (W.inp i) i b W.sent y.list n)
       ])
-      (λ n. Outs.quiet_ack i j a b l n)
+      (λ n. Outs.quiet_ack i j a b y.list n)
     where
-      f : RenewedFits P.counts a b w o v e stamp len l
-      f = fits_renewed P.counts a b w o v x e stamp len l h.1
+      f : RenewedFits P.counts a b y
+      f = fits_renewed P.counts a b y h.1
 
       Q : Output
-      Q = after_answer P.drift a w o v x e stamp len (list_of l) (W.out b)
+      Q = after_answer P.drift a y (W.out b)
 
       a<8 : a < 8
-      a<8 = let z = f.input in let y = small.n_most in omega arith
+      a<8 = omega (arith, f.input, small.n_most)
 
-      inside : All (λ (p : Pair). p.object < 16) (list_of l)
-      inside = all_map (λ (p : Pair). p.object < P.counts.k) (λ (p : Pair). p.object < 16) (λ p h. few p.object h) (list_of l) f.objects
+      inside : All (λ (p : Pair). p.object < 16) (list_of y.list)
+      inside = all_map (λ (p : Pair). p.object < P.counts.k) (λ (p : Pair). p.object < 16) (λ p h. few p.object h) (list_of y.list) f.objects
   moves_hears (Invalidation a b o v) h = at_output_lem b Q (answers_invalidation b a o v)
       (λ g. elim (cases_eq a i) [
         | inl d ↦ subst₂ (λ (x y : ℕ). Moves L R (view_of (W.inp x) (W.out y) x y W.sent) (view_of (W.inp x) Q x y (W.sent ++ answers_invalidation b a o v))) d g

@@ -131,8 +131,8 @@ module _ (S : Story) (in_lawful : Lawful S.inputs) (out_lawful : Lawful S.output
   MsgTraced t (WriteAnswer i p s) = Unit {0}
   MsgTraced t (ReadRequest p j o) = (b : ℕ) × (b < t) × BeginsRead S b p o
   MsgTraced t (ReadAnswer j p v x) = Unit {0}
-  MsgTraced t (RenewalRequest j i a o s) = Unit {0}
-  MsgTraced t (RenewalAnswer i j a o v x e s n l) = Unit {0}
+  MsgTraced t (RenewalRequest j i r) = Unit {0}
+  MsgTraced t (RenewalAnswer i j y) = Unit {0}
   MsgTraced t (Invalidation i j o v) = Unit {0}
   MsgTraced t (InvalidationAnswer j i l) = Unit {0}
 
@@ -155,8 +155,8 @@ module _ (S : Story) (in_lawful : Lawful S.inputs) (out_lawful : Lawful S.output
   msg_later t (WriteAnswer i p s) h = tt
   msg_later t (ReadRequest p j o) h = (h.0, let z = h.1 in omega arith, h.2)
   msg_later t (ReadAnswer j p v x) h = tt
-  msg_later t (RenewalRequest j i a o s) h = tt
-  msg_later t (RenewalAnswer i j a o v x e s n l) h = tt
+  msg_later t (RenewalRequest j i r) h = tt
+  msg_later t (RenewalAnswer i j y) h = tt
   msg_later t (Invalidation i j o v) h = tt
   msg_later t (InvalidationAnswer j i l) h = tt
 
@@ -277,8 +277,8 @@ module _ (S : Story) (in_lawful : Lawful S.inputs) (out_lawful : Lawful S.output
           },
         )
     new_traced h (ReadAnswer j p v x) n = tt
-    new_traced h (RenewalRequest j i a o s) n = tt
-    new_traced h (RenewalAnswer i j a o v x e s k m) n = tt
+    new_traced h (RenewalRequest j i r) n = tt
+    new_traced h (RenewalAnswer i j y) n = tt
     new_traced h (Invalidation i j o v) n = tt
     new_traced h (InvalidationAnswer j i k) n = tt
 
@@ -524,8 +524,8 @@ module _ (S : Story) (in_lawful : Lawful S.inputs) (out_lawful : Lawful S.output
       each (WriteAnswer i p t) h = tt
       each (ReadRequest p j z) h = λ f. absurd (let y = h.0.1 in omega arith)
       each (ReadAnswer j p v x) h = λ f _ _. absurd (let y = h.0.1 in omega arith)
-      each (RenewalRequest j i a z s) h = tt
-      each (RenewalAnswer i j a z v x f s n l) h = tt
+      each (RenewalRequest j i r) h = tt
+      each (RenewalAnswer i j y) h = tt
       each (Invalidation i j z v) h = tt
       each (InvalidationAnswer j i l) h = tt
 
@@ -575,8 +575,8 @@ module _ (S : Story) (in_lawful : Lawful S.inputs) (out_lawful : Lawful S.output
       each (WriteAnswer i p t) h = tt
       each (ReadRequest p b z) h = tt
       each (ReadAnswer b p v x) h = tt
-      each (RenewalRequest b i a z s) h = tt
-      each (RenewalAnswer i b a z v x f s n l) h = tt
+      each (RenewalRequest b i r) h = tt
+      each (RenewalAnswer i b y) h = tt
       each (Invalidation i b z v) h = tt
       each (InvalidationAnswer b i l) h = tt
 

@@ -14,7 +14,7 @@ use Rattle.rules.specs.Input.{Input, ledger, is_shut_out, invalidations, answers
 use Rattle.rules.specs.Lists.{list_of}
 use Rattle.numbers.specs.Numbers.{between, is_version, last_time, longest}
 use Rattle.rules.specs.Operation.{Operation, asking, reading, ended, first_asking, first_reading, clock_questions, read_requests}
-use Rattle.rules.specs.Output.{Output, good, valid, renewals, answers_read, after_answer, acknowledgement, after_invalidation, answers_invalidation, later_output}
+use Rattle.rules.specs.Output.{Output, good, valid, asks_all, answers_read, after_answer, acknowledgement, after_invalidation, answers_invalidation, later_output}
 use Rattle.rules.specs.Ranges.{numbers_fit, state_fits, has_room}
 use Rattle.rules.specs.Reaction.{Reaction, reacts}
 use Rattle.rules.specs.Said.{Said, refused, accepted, began}
@@ -360,9 +360,9 @@ module _ (inputs outputs : System) (s : State) (P : Outcome → Type 0) (n_is : 
   known_low p h = (within_range 1 s.begun p (and_parts (between 1 s.begun p) (state_fits s.frame.counts p (operation_at s p)) h).0).0
 
   read_short : (j p o : ℕ) (O : Output) → Short s (answers_read inputs j p s.frame.counts.n o O)
-  read_short j p o O g h = cond_both (valid inputs s.frame.counts.n o O) _ (renewals j s.frame.counts.n o O)
+  read_short j p o O g h = cond_both (valid inputs s.frame.counts.n o O) _ (asks_all j s.frame.counts.n o O)
       (λ (new : List Message). length new ≤ 9) (λ _. omega arith)
-      (λ _. let z : length (renewals j s.frame.counts.n o O) ≤ s.frame.counts.n = each_length s.frame.counts.n _
+      (λ _. let z : length (asks_all j s.frame.counts.n o O) ≤ s.frame.counts.n = each_length s.frame.counts.n _
       (λ k. cond_both (good O o k) [] _ (λ (new : List Message). length new ≤ 1) (λ _. omega arith) (λ _. omega arith)) in omega arith)
 
   pub receives_ways : (m : Message) → in_range m s ≡ true → P (receives inputs outputs m s)
@@ -407,34 +407,34 @@ module _ (inputs outputs : System) (s : State) (P : Outcome → Type 0) (n_is : 
   receives_ways (ReadAnswer j p v x) h =
       let a = and_parts (numbers_fit s.frame.counts (ReadAnswer j p v x)) (is_known s p) h in
       reaction_ways (ReadAnswer j p v x) p (known_low p a.1)
-  receives_ways (RenewalRequest j i a o stamp) h = d.takes i (after_renewal s.frame.lease j a o (input_at s i))
-      (answers_renewal i s.frame.lease j a o stamp (input_at s i) ∷ [])
+  receives_ways (RenewalRequest j i r) h = d.takes i (after_renewal s.frame.lease j r (input_at s i))
+      (answers_renewal i s.frame.lease j r (input_at s i))
       (record {
         inside = f.input;
-        rises = renewal_rises s.frame.lease j a o (input_at s i);
-        bounds = λ few b more l. more_made s.frame.lease s.made more (after_renewal s.frame.lease j a o (input_at s i)) (omega arith)
-            (renewal_bounds s.frame.lease s.made j a o (input_at s i) b);
-        leases = λ b k. elim (until7 s.frame.lease j a o (input_at s i) k) [
+        rises = renewal_rises s.frame.lease j r (input_at s i);
+        bounds = λ few b more l. more_made s.frame.lease s.made more (after_renewal s.frame.lease j r (input_at s i)) (omega arith)
+            (renewal_bounds s.frame.lease s.made j r (input_at s i) b);
+        leases = λ b k. elim (until7 s.frame.lease j r (input_at s i) k) [
           | inl e ↦ let u = ap (λ (t : Time). t.0) e in omega arith
           | inr e ↦ omega (arith, b.until k, e)
         ];
       })
       (λ _ _. omega arith)
     where
-      f : RenewalFits s.frame.counts i j o
-      f = fits_renewal s.frame.counts j i a o stamp (and_parts (numbers_fit s.frame.counts (RenewalRequest j i a o stamp)) true h).0
-  receives_ways (RenewalAnswer i j a o v x e stamp len l) h = d.hears j
-      (after_answer s.frame.drift i a o v x e stamp len (list_of l) (output_at s j)) (acknowledgement j i l)
+      f : RenewalFits s.frame.counts i j r
+      f = fits_renewal s.frame.counts j i r (and_parts (numbers_fit s.frame.counts (RenewalRequest j i r)) true h).0
+  receives_ways (RenewalAnswer i j y) h = d.hears j
+      (after_answer s.frame.drift i y (output_at s j)) (acknowledgement j i y.list)
       (record {
         inside = f.output;
-        rises = answer_rises s.frame.drift i a o v x e stamp len (list_of l) (output_at s j);
-        bounds = λ b. answer_bounds s.frame.drift i a o v x e stamp len (list_of l) (output_at s j) b f.stamped f.short;
+        rises = answer_rises s.frame.drift i y (output_at s j);
+        bounds = λ b. answer_bounds s.frame.drift i y (output_at s j) b f.stamped f.short;
       })
-      (λ _ _. let z = ack_length j i l in omega arith)
+      (λ _ _. let z = ack_length j i y.list in omega arith)
     where
-      f : RenewedFits s.frame.counts i j a o v e stamp len l
-      f = fits_renewed s.frame.counts i j a o v x e stamp len l
-          (and_parts (numbers_fit s.frame.counts (RenewalAnswer i j a o v x e stamp len l)) true h).0
+      f : RenewedFits s.frame.counts i j y
+      f = fits_renewed s.frame.counts i j y
+          (and_parts (numbers_fit s.frame.counts (RenewalAnswer i j y)) true h).0
   receives_ways (Invalidation i j o v) h = d.hears j (after_invalidation i o v (output_at s j)) (answers_invalidation j i o v)
       (record {
         inside = (fits_invalidation s.frame.counts i j o v (and_parts (numbers_fit s.frame.counts (Invalidation i j o v)) true h).0).output;
@@ -469,6 +469,6 @@ call_ways inputs outputs s P w (to_read o) =
 call_ways inputs outputs s P w (to_deliver number) = when_ways inputs outputs s _ P w.refuses (λ found.
     cond_both (eqb number 0 || ltb s.made number) (refuse 31 s) _ P (λ _. w.refuses 31) (λ a.
     cond_both (not (has_nine s)) (refuse 32 s) _ P (λ _. w.refuses 32) (λ b.
-    cond_both (not (in_range (message_at s number) s)) (refuse 33 s) _ P (λ _. w.refuses 33) (λ c.
-    receives_ways inputs outputs s P found.n (w.delivers found (leb-true (s.made + 9) (length s.log) (not-false (has_nine s) b)))
-    (message_at s number) (not-false (in_range (message_at s number) s) c)))))
+    cond_both (in_range (message_at s number) s) (receives inputs outputs (message_at s number) s) (refuse 33 s) P
+    (receives_ways inputs outputs s P found.n (w.delivers found (leb-true (s.made + 9) (length s.log) (not-false (has_nine s) b))) (message_at s number))
+    (λ _. w.refuses 33))))

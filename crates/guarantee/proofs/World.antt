@@ -109,10 +109,9 @@ run P (hears (WriteRequest p i o v x)) W =
 run P (hears (WriteAnswer i p t)) W = at_reaction p (reaction P (WriteAnswer i p t) (W.op p)) W
 run P (hears (ReadRequest p j o)) W = at_output j (W.out j) (answers_read P.inputs j p P.counts.n o (W.out j)) W
 run P (hears (ReadAnswer j p v x)) W = at_reaction p (reaction P (ReadAnswer j p v x) (W.op p)) W
-run P (hears (RenewalRequest j i a o stamp)) W =
-    at_input i (after_renewal P.lease j a o (W.inp i)) (answers_renewal i P.lease j a o stamp (W.inp i) ∷ []) W
-run P (hears (RenewalAnswer i j a o v x e stamp length l)) W =
-    at_output j (after_answer P.drift i a o v x e stamp length (list_of l) (W.out j)) (acknowledgement j i l) W
+run P (hears (RenewalRequest j i r)) W =
+    at_input i (after_renewal P.lease j r (W.inp i)) (answers_renewal i P.lease j r (W.inp i)) W
+run P (hears (RenewalAnswer i j y)) W = at_output j (after_answer P.drift i y (W.out j)) (acknowledgement j i y.list) W
 run P (hears (Invalidation i j o v)) W = at_output j (after_invalidation i o v (W.out j)) (answers_invalidation j i o v) W
 run P (hears (InvalidationAnswer j i l)) W = at_input i (acknowledges_all j (list_of l) (W.inp i)) [] W
 

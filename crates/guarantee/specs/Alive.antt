@@ -7,7 +7,10 @@ use Rattle.quorum.specs.Systems.{Lawful, majority, read_one_write_all}
 use Rattle.rules.specs.declared.kept.Ledger.{Ledger}
 use Rattle.rules.specs.declared.message.Message.{Message}
 use Rattle.rules.specs.declared.message.Message.TheVariants.{ClockQuestion, WriteAnswer, RenewalRequest, RenewalAnswer, Invalidation, InvalidationAnswer}
+use Rattle.rules.specs.declared.parts.Parts.{Parts}
 use Rattle.rules.specs.declared.parts.Parts.TheVariants.{Object, Volume}
+use Rattle.rules.specs.declared.renewal.Renewal.{Renewal}
+use Rattle.rules.specs.declared.renewal.Renewed.{Renewed}
 use Rattle.rules.specs.declared.pairs.Pair.{Pair}
 use Rattle.numbers.specs.declared.time.Time.{Time}
 use Rattle.rules.specs.Calls.{message_at}
@@ -47,6 +50,21 @@ zeros n = replicate n (record { 0 = 0 })
 
 abbrev pub pair : ℕ → ℕ → Pair
 pair object version = record { object = object; version = record { 0 = version } }
+
+-- what is asked of object 0 at that time
+abbrev pub asked_for : Parts → ℕ → Renewal
+asked_for parts stamp = record { parts = parts; object = 0; stamp = record { 0 = stamp } }
+
+-- an answer that brings a lease and a list, and no object
+abbrev pub leased : ℕ → ℕ → ℕ → List Pair → Renewed
+leased stamp epoch length ps = record {
+  renewal = asked_for Volume stamp;
+  version = none;
+  value = 0;
+  epoch = record { 0 = epoch };
+  length = length;
+  list = pairs ps;
+}
 
 -- these messages are delivered, one after the other
 abbrev pub deliveries : List ℕ → List Call
@@ -179,9 +197,9 @@ pub record LeaseOver : Type 0 where
   pub write_ends : EndsWrite lease_over 12 2 131074 7
   -- the invalidation comes with the lease that the next read asks for
   pub read_begins : BeginsRead lease_over 13 3 0
-  pub asked : message_before lease_over 15 10 ≡ RenewalRequest 0 0 Volume 0 (record { 0 = 1000 })
+  pub asked : message_before lease_over 15 10 ≡ RenewalRequest 0 0 (asked_for Volume 1000)
   pub brought : message_before lease_over 16 11
-      ≡ RenewalAnswer 0 0 Volume 0 none 0 (record { 0 = 1 }) (record { 0 = 1000 }) 1000 (pairs (pair 0 131074 ∷ []))
+      ≡ RenewalAnswer 0 0 (leased 1000 1 1000 (pair 0 131074 ∷ []))
   pub acknowledged : message_before lease_over 17 12 ≡ InvalidationAnswer 0 0 (pairs (pair 0 131074 ∷ []))
   -- its record is free when the acknowledgement was delivered, and not before
   pub still_waits : chain (input_before lease_over 17) 0 ≡ pair 0 131074 ∷ []
@@ -247,8 +265,8 @@ pub record RecordsOut : Type 0 where
   -- what was freed is not lost: the next lease brings no list but the new epoch, so that the old copy is asked for anew
   pub read_begins : BeginsRead records_out 77 19 0
   pub brought : message_before records_out 80 137
-      ≡ RenewalAnswer 0 0 Volume 0 none 0 (record { 0 = 2 }) (record { 0 = 1000 }) 1000 (pairs [])
-  pub asked : message_before records_out 82 138 ≡ RenewalRequest 0 0 Object 0 (record { 0 = 1000 })
+      ≡ RenewalAnswer 0 0 (leased 1000 2 1000 [])
+  pub asked : message_before records_out 82 138 ≡ RenewalRequest 0 0 (asked_for Object 1000)
   pub read_ends : EndsRead records_out 85 19 131082 7
 
 -- ---- all of it

@@ -1,12 +1,8 @@
 -- The law of leases: why an input server that has waited a lease out need not ask.
 use Rattle.std.specs.Prelude.{◌≡◌, ℕ, ◌<◌, ◌≤◌, true, false, length, take}
 use Rattle.quorum.specs.Systems.{Lawful}
-use Rattle.numbers.specs.declared.epoch.Epoch.{Epoch}
 use Rattle.rules.specs.declared.message.Message.TheVariants.{RenewalAnswer}
-use Rattle.rules.specs.declared.parts.Parts.{Parts}
-use Rattle.rules.specs.declared.pairs.Pairs.{Pairs}
-use Rattle.numbers.specs.declared.time.Time.{Time}
-use Rattle.numbers.specs.declared.version.Version.{Version}
+use Rattle.rules.specs.declared.renewal.Renewed.{Renewed}
 use Rattle.rules.specs.Input.{ledger}
 use Rattle.numbers.specs.Numbers.{lease_end}
 use Rattle.rules.specs.Renewals.{asks_volume}
@@ -16,9 +12,8 @@ use Rattle.guarantee.specs.Story.{Story, before, Has}
 -- Every lease that input server i ever granted output server j is over on the clock of j, delivered or not.
 abbrev pub AllOver : State → ℕ → ℕ → Type 0
 AllOver s i j =
-    (a : Parts) (o : ℕ) (v : Version) (x : ℕ) (e : Epoch) (stamp : Time) (len : ℕ) (l : Pairs)
-    → asks_volume a ≡ true → 1 ≤ len → Has (take s.made s.log) (RenewalAnswer i j a o v x e stamp len l)
-    → (lease_end stamp.0 len s.frame.drift).0 ≤ (output_at s j).clock.0
+    (y : Renewed) → asks_volume y.renewal.parts ≡ true → 1 ≤ y.length → Has (take s.made s.log) (RenewalAnswer i j y)
+    → (lease_end y.renewal.stamp.0 y.length s.frame.drift).0 ≤ (output_at s j).clock.0
 
 -- Whenever, in any story, the clock of an input server has reached its lease end for an output server, it is so.
 abbrev pub LeasesRunOut : Type 0

@@ -4,17 +4,17 @@ use Rattle.quorum.specs.Sets.{set_of}
 use Rattle.quorum.specs.Systems.{System, majority, read_one_write_all}
 use Rattle.rules.specs.declared.message.Message.{Message}
 use Rattle.rules.specs.declared.message.Message.TheVariants.{RenewalAnswer}
-use Rattle.rules.specs.declared.parts.Parts.TheVariants.{Volume, Both}
+use Rattle.rules.specs.declared.parts.Parts.TheVariants.{Both}
 use Rattle.rules.specs.declared.pairs.Pair.{Pair}
 use Rattle.rules.specs.Calls.{opening, advancing}
 use Rattle.rules.specs.Input.{Input, ledger, chain, after_write, grants, answers_renewal, after_renewal, first_input, later_input}
 use Rattle.rules.specs.Lists.{each, pairs}
-use Rattle.numbers.specs.Numbers.{none, version_of, live, lease_end}
+use Rattle.numbers.specs.Numbers.{version_of, live, lease_end}
 use Rattle.rules.specs.Operation.{Sending, first_asking, hears_clock, gets_version, hears_named, counts, is_written}
 use Rattle.rules.specs.Output.{Output, link, leased, after_answer, first_output}
 use Rattle.rules.specs.Said.{Said, accepted, refused}
 use Rattle.rules.specs.State.{Outcome}
-use Rattle.guarantee.specs.Alive.{unopened, zeros, pair}
+use Rattle.guarantee.specs.Alive.{unopened, zeros, pair, asked_for, leased as lease_of}
 
 -- an input server names a set of output servers as shut out
 pub data Named : Type 0 where
@@ -51,7 +51,7 @@ opens drift = opening (majority 1) (read_one_write_all 1) 1 1000 drift (zeros 2)
 -- an output server whose clock shows that time, and which took one renewal answer of the volume with that stamp and length
 abbrev pub renewed : ℕ → ℕ → ℕ → ℕ → Output
 renewed stamp length drift time =
-    after_answer drift 0 Volume 0 none 0 (record { 0 = 1 }) (record { 0 = stamp }) length [] (first_output (record { 0 = time }))
+    after_answer drift 0 (lease_of stamp 1 length []) (first_output (record { 0 = time }))
 
 -- ---- writes
 
@@ -70,7 +70,7 @@ hears_each (names i s ∷ rest) w = hears_each rest (hears_named i (record { 0 =
 -- write, with the version of clock 2 and operation o + 1 for object o
 abbrev pub wrote : ℕ → Input
 wrote zero = first_input (record { 0 = 0 })
-wrote (suc o) = after_write 1 o (version_of 2 (o + 1)) 7 (after_renewal 1000 0 Both o (wrote o))
+wrote (suc o) = after_write 1 o (version_of 2 (o + 1)) 7 (after_renewal 1000 0 (record { parts = Both; object = o; stamp = record { 0 = 0 } }) (wrote o))
 
 -- then its clock came to 400
 abbrev pub waits : ℕ → Input
@@ -82,8 +82,14 @@ first_pairs count = each count (λ o. pair o (version_of 2 (o + 1)).0 ∷ [])
 
 -- and an answer to output server 0, stamped 500, of object 0, with that length and so many of the pairs
 abbrev pub answer_with : ℕ → ℕ → Message
-answer_with length count =
-    RenewalAnswer 0 0 Both 0 (version_of 2 1) 7 (record { 0 = 1 }) (record { 0 = 500 }) length (pairs (first_pairs count))
+answer_with length count = RenewalAnswer 0 0 (record {
+  renewal = asked_for Both 500;
+  version = version_of 2 1;
+  value = 7;
+  epoch = record { 0 = 1 };
+  length = length;
+  list = pairs (first_pairs count);
+})
 
 -- ---- what the lines say
 
@@ -107,9 +113,9 @@ Holds (write_has_ended inputs outputs heard counting answer) =
 Holds (renewal_is_answered count shown granted end) =
     (length (chain (waits count) 0) ≡ count)
     × ((ledger (waits count) 0).until.0 ≡ 1000)
-    × (answers_renewal 0 1000 0 Both 0 (record { 0 = 500 }) (waits count) ≡ answer_with granted shown)
+    × (answers_renewal 0 1000 0 (asked_for Both 500) (waits count) ≡ answer_with granted shown ∷ [])
     × (grants Both 0 (waits count) ≡ nat_lt 0 granted)
-    × ((ledger (after_renewal 1000 0 Both 0 (waits count)) 0).until.0 ≡ end)
+    × ((ledger (after_renewal 1000 0 (asked_for Both 500) (waits count)) 0).until.0 ≡ end)
 
 abbrev pub Each : List Line → Type 0
 Each [] = Unit {0}

@@ -8,11 +8,11 @@ use Rattle.rules.proofs.Logging.{logs_append, step_logs}
 use Rattle.rules.specs.declared.log.Log.{Log}
 use Rattle.rules.specs.declared.message.Message.{Message}
 use Rattle.rules.specs.declared.message.Message.TheVariants.{WriteAnswer}
-use Rattle.rules.specs.Input.{Input, is_shut_out, invalidations, answers_write, takes_write, queues_all}
+use Rattle.rules.specs.Input.{Input, is_shut_out, invalidation, invalidations, answers_write, takes_write, queues_all}
 use Rattle.rules.specs.Steps.{Step, step, steps, has_room, Logs}
 use Rattle.input_server.specs.Epochs.{have_epochs}
 use Rattle.input_server.specs.Steps.{write_step}
-use Rattle.input_server.specs.Telling.{invalidation}
+
 
 pub telling_one : (i o : ℕ) (I : Input) (j : ℕ) → length (invalidation i o I j) ≤ 1
 telling_one i o I j = cond_both (is_shut_out I o j) [] _ (λ (l : List Message). length l ≤ 1) (λ _. omega arith) (λ _. omega arith)

@@ -1,12 +1,12 @@
 -- What a write changes: the version held, and what waits for one output server after the other.
-use Rattle.std.proofs.Common.{◌≡◌, ℕ, zero, suc, ◌+◌, ◌<◌, ◌≤◌, max, Bool, true, false, ◌&&◌, ltb, leb, List, [], ◌∷◌, get_or, set, sym, refl, ap, ◌∙◌, inl, inr, add-one, arith, get_or-set_other}
+use Rattle.std.proofs.Common.{◌≡◌, ℕ, zero, suc, ◌+◌, ◌<◌, ◌≤◌, max, Bool, true, false, ◌&&◌, ltb, List, [], ◌∷◌, get_or, set, sym, refl, ap, ◌∙◌, inl, inr, add-one, arith, get_or-set_other}
 use Rattle.std.proofs.lemmas.Bool.{cond-true, cond-false, cond_both, cases_eq, and_parts}
 use Rattle.numbers.specs.declared.version.Version.{Version}
-use Rattle.numbers.specs.Numbers.{clock_of}
+use Rattle.numbers.specs.Numbers.{clock_of, last_epoch}
 use Rattle.rules.specs.declared.kept.Ledger.{Ledger}
 use Rattle.rules.specs.declared.pairs.Pair.{Pair}
 use Rattle.rules.specs.Input.{Input, no_ledger, held, ledger, chain, owed, queued, fits, takes_write, queues_for, queues_all}
-use Rattle.input_server.specs.Epochs.{last_epoch, has_epoch, have_epochs, next_epoch}
+use Rattle.input_server.specs.Epochs.{has_epoch, have_epochs, next_epoch}
 
 -- ---- the version held
 
@@ -127,7 +127,7 @@ epoch_at ls (suc m) j h e = elim (cases_eq j m) [
 pub epoch_left : (o m j : ℕ) (I J : Input) → j < m → have_epochs I.ledgers m ≡ true → J ≡ queues_all o j I → has_epoch J.ledgers j ≡ true
 epoch_left o m j I J h e q =
     ap (λ (K : Input). has_epoch K.ledgers j) q
-    ∙ ap (λ (l : Ledger). leb l.epoch.0 last_epoch) (queues_later o j I j (omega arith))
+    ∙ ap (λ (l : Ledger). ltb l.epoch.0 last_epoch) (queues_later o j I j (omega arith))
     ∙ epoch_at I.ledgers m j h e
 
 -- one turn more of the loop that looks at the epochs

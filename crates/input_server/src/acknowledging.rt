@@ -1,21 +1,32 @@
 // What an output server acknowledged.
 ghost use Rattle.std.specs.Prelude.{◌≡◌, [], slice_index_or, slice_set};
 ghost use Rattle.numbers.specs.Numbers.{none, raised};
+ghost use Rattle.rules.specs.Lists.{list_of};
 ghost use Rattle.rules.specs.Input.{acknowledges, acknowledges_all};
 ghost use Rattle.input_server.specs.Views.{input_of};
 
 use crate::server::InputServer;
 use numbers::{OutputNumber, Version};
-use rules::Pair;
+use rules::{InRange, Pair, Pairs};
 
 impl InputServer {
-    // An invalidation answer: each pair of its list, in order.
-    #[tactic(auto, unfolding(rules::specs::Input::acknowledges_all))]
-    pub fn take_acknowledgement(&mut self, output: OutputNumber, list: &[Pair])
-        ensures does { input_of self.new ≡ acknowledges_all output.number list.now (input_of self.old) }
-        ensures same { list.now ≡ [] → self.new ≡ self.old }
+    /// An invalidation answer of an output server: each pair of its list, in order.
+    pub fn take_acknowledgement(&mut self, output: OutputNumber, list: &InRange<Pairs>)
+        ensures does {
+            input_of self.new
+                ≡ acknowledges_all output.number (list_of list.now.value) (input_of self.old)
+        }
+        ensures same { list_of list.now.value ≡ [] → self.new ≡ self.old }
     {
-        for pair in list {
+        self.acknowledge_all(output, list.value.as_slice());
+    }
+
+    #[tactic(auto, unfolding(rules::specs::Input::acknowledges_all))]
+    fn acknowledge_all(&mut self, output: OutputNumber, pairs: &[Pair])
+        ensures does { input_of self.new ≡ acknowledges_all output.number pairs.now (input_of self.old) }
+        ensures same { pairs.now ≡ [] → self.new ≡ self.old }
+    {
+        for pair in pairs {
             self.acknowledge(output, *pair);
         }
     }

@@ -14,14 +14,15 @@ impl InputServer {
     // A version above the one held is taken, with its value.
     #[tactic(auto, unfolding(rules::specs::Input::takes_write))]
     pub(crate) fn take_version(&mut self, request: &WriteRequest)
-        ensures { input_of self.new ≡ takes_write request.now.object.number request.now.version request.now.value (input_of self.old) }
+        ensures { input_of self.new ≡ takes_write request.now.pair.value.object request.now.pair.value.version request.now.value (input_of self.old) }
     {
-        let place = request.object.index();
+        let place = request.pair.object().index();
+        let version = request.pair.value.version;
         let held = self.objects[place];
-        if request.version > held.version {
-            self.lc = self.lc.max(request.version.clock());
+        if version > held.version {
+            self.lc = self.lc.max(version.clock());
             self.objects[place] = Held {
-                version: request.version,
+                version,
                 value: request.value,
                 ..held
             };

@@ -13,7 +13,7 @@ ghost use Rattle.input_server.specs.Views.{input_of};
 use crate::requests::{RenewalRequest, WriteRequest};
 use crate::server::InputServer;
 use chain::Chains;
-use numbers::{Epoch, InputNumber, Moment, Time, Version};
+use numbers::{Epoch, InputNumber, Moment, OperationNumber, Time, Version};
 use quorum::Refusal;
 use rules::{Held, Ledger, Log, Message, OBJECTS, SERVERS};
 
@@ -61,10 +61,10 @@ impl InputServer {
     pub fn answer_clock(
         &self,
         me: InputNumber,
-        operation: u16,
+        operation: OperationNumber,
         log: &mut Log,
     ) -> Result<(), Refusal>
-        ensures does { clock_step me.number operation (input_of self.now) log.old.made log.old.messages.now ≡ step result (input_of self.now) log.new }
+        ensures does { clock_step me.number operation.number (input_of self.now) log.old.made log.old.messages.now ≡ step result (input_of self.now) log.new }
         ensures same { is_ok result ≡ false → log.new ≡ log.old }
         ensures loan { log.new.messages.ghost_name ≡ log.old.messages.ghost_name }
     {
@@ -73,7 +73,7 @@ impl InputServer {
         }
         log.push(Message::ClockAnswer {
             input: me.get(),
-            operation,
+            operation: operation.get(),
             clock: self.lc,
         });
         Ok(())
@@ -86,7 +86,7 @@ impl InputServer {
         request: &WriteRequest,
         log: &mut Log,
     ) -> Result<(), Refusal>
-        ensures does { write_step me.number request.now.operation request.now.outputs.number request.now.object.number request.now.version request.now.value (input_of self.old) log.old.made log.old.messages.now ≡ step result (input_of self.new) log.new }
+        ensures does { write_step me.number request.now.operation.number request.now.outputs.number request.now.pair.value.object request.now.pair.value.version request.now.value (input_of self.old) log.old.made log.old.messages.now ≡ step result (input_of self.new) log.new }
         ensures same { is_ok result ≡ false → (self.new ≡ self.old) × (log.new ≡ log.old) }
         ensures loan { log.new.messages.ghost_name ≡ log.old.messages.ghost_name }
     {
@@ -96,13 +96,14 @@ impl InputServer {
         if !self.has_epochs(request.outputs) {
             return Err(Refusal::OutOfRange);
         }
+        let object = request.pair.object();
         self.take_version(request);
-        self.queue_all(request.outputs, request.object);
-        self.tell_all(me, request.outputs, request.object, log);
+        self.queue_all(request.outputs, object);
+        self.tell_all(me, request.outputs, object, log);
         log.push(Message::WriteAnswer {
             input: me.get(),
-            operation: request.operation,
-            shut_out: self.shut_out(request.outputs, request.object),
+            operation: request.operation.get(),
+            shut_out: self.shut_out(request.outputs, object),
         });
         Ok(())
     }
@@ -114,21 +115,23 @@ impl InputServer {
         request: &RenewalRequest,
         log: &mut Log,
     ) -> Result<(), Refusal>
-        ensures does { renewal_step me.number request.now.lease.micros request.now.output.number request.now.parts request.now.object.number request.now.stamp (input_of self.old) log.old.made log.old.messages.now ≡ step result (input_of self.new) log.new }
+        ensures does { renewal_step me.number request.now.lease.micros request.now.output.number request.now.renewal.value (input_of self.old) log.old.made log.old.messages.now ≡ step result (input_of self.new) log.new }
         ensures same { is_ok result ≡ false → (self.new ≡ self.old) × (log.new ≡ log.old) }
         ensures loan { log.new.messages.ghost_name ≡ log.old.messages.ghost_name }
     {
         if !log.has_room() {
             return Err(Refusal::NoRoomToDeliver);
         }
-        // a lease that is not granted has the length 0
         let granted = self.granted(request);
-        let length = granted.map_or(0, |lease| lease.micros());
-        log.push(self.renewal(me, request, length));
+        log.push(Message::RenewalAnswer {
+            input: me.get(),
+            output: request.output.get(),
+            renewed: self.renewed(request, granted),
+        });
         if let Some(lease) = granted {
             self.grant(request.output, lease);
         }
-        self.give(request.object, request.parts);
+        self.give(&request.renewal);
         Ok(())
     }
 }

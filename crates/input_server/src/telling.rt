@@ -1,9 +1,8 @@
 // Who is shut out, and who is told of a write.
 ghost use Rattle.std.specs.Prelude.{◌≡◌, ◌+◌, ◌<◌, ◌≤◌, length};
 ghost use Rattle.quorum.specs.Sets.{set_of};
-ghost use Rattle.rules.specs.Input.{is_shut_out, invalidations};
+ghost use Rattle.rules.specs.Input.{is_shut_out, invalidation, invalidations};
 ghost use Rattle.rules.specs.Steps.{Logs};
-ghost use Rattle.input_server.specs.Telling.{invalidation};
 ghost use Rattle.input_server.specs.Views.{input_of};
 
 use crate::server::InputServer;

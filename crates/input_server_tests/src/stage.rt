@@ -1,10 +1,11 @@
 // An input server with a log lent to it, and plain numbers in place of checked ones.
 use input_server::{InputServer, RenewalRequest, WriteRequest};
 use numbers::{
-    Epoch, InputNumber, LeaseLength, Moment, ObjectNumber, OutputNumber, ServerCount, Time, Version,
+    Epoch, InputNumber, LeaseLength, Moment, OperationNumber, OutputNumber, ServerCount, Time,
+    Version,
 };
 use quorum::MemberSet;
-use rules::{Log, Message, Pair, Pairs, Parts};
+use rules::{InRange, Log, Message, Pair, Pairs, Parts, Renewal, Renewed};
 use std::process::Abort;
 use std::test::*;
 
@@ -62,9 +63,11 @@ impl Stage {
     ) -> Result<(), Fail> {
         let request = RenewalRequest {
             output: OutputNumber::try_from(output)?,
-            parts,
-            object: ObjectNumber::try_from(object)?,
-            stamp: Time(70),
+            renewal: InRange::alone(Renewal {
+                parts,
+                object,
+                stamp: Time(70),
+            })?,
             lease: self.lease,
         };
         let mut log = Log::new(&mut self.log, 0);
@@ -97,16 +100,16 @@ impl Stage {
     fn request(&self, object: u8, version: Version) -> Result<WriteRequest, Fail> {
         Ok(WriteRequest {
             outputs: self.outputs,
-            operation: 9,
-            object: ObjectNumber::try_from(object)?,
-            version,
+            operation: OperationNumber::try_from(9)?,
+            pair: InRange::alone(Pair { object, version })?,
             value: 5,
         })
     }
 
     pub(crate) fn acknowledge(&mut self, output: u8, list: Pairs) -> Result<(), Fail> {
         let output = OutputNumber::try_from(output)?;
-        self.server.take_acknowledgement(output, list.as_slice());
+        self.server
+            .take_acknowledgement(output, &InRange::alone(list)?);
         Ok(())
     }
 
@@ -128,7 +131,8 @@ impl Stage {
     // That a clock question is answered by that clock.
     pub(crate) fn expect_clock(&mut self, rt: &impl Abort, clock: u16) -> Result<(), Fail> {
         let mut log = Log::new(&mut self.log, 0);
-        self.server.answer_clock(self.me, 9, &mut log)?;
+        let operation = OperationNumber::try_from(9)?;
+        self.server.answer_clock(self.me, operation, &mut log)?;
         assert_eq!(rt; log.made(), 1);
         self.expect(
             rt,
@@ -158,14 +162,18 @@ impl Stage {
             Message::RenewalAnswer {
                 input: 2,
                 output,
-                parts: Parts::Volume,
-                object: 0,
-                version: Version::NONE,
-                value: 0,
-                epoch: Epoch(epoch),
-                stamp: Time(70),
-                length,
-                list,
+                renewed: Renewed {
+                    renewal: Renewal {
+                        parts: Parts::Volume,
+                        object: 0,
+                        stamp: Time(70),
+                    },
+                    version: Version::NONE,
+                    value: 0,
+                    epoch: Epoch(epoch),
+                    length,
+                    list,
+                },
             },
         )
     }
@@ -187,14 +195,18 @@ impl Stage {
             Message::RenewalAnswer {
                 input: 2,
                 output: 0,
-                parts,
-                object: 3,
-                version,
-                value,
-                epoch: Epoch(1),
-                stamp: Time(70),
-                length,
-                list: Pairs::empty(),
+                renewed: Renewed {
+                    renewal: Renewal {
+                        parts,
+                        object: 3,
+                        stamp: Time(70),
+                    },
+                    version,
+                    value,
+                    epoch: Epoch(1),
+                    length,
+                    list: Pairs::empty(),
+                },
             },
         )
     }

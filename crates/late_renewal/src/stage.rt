@@ -1,14 +1,15 @@
 // The two servers with their log, and what can happen to them. Every message stays in the log under
 // its number, and is delivered when the story says so, or never.
-use crate::words::{Brought, Versions, Words, brought_in};
+use crate::words::{Versions, Words};
 use anyhow::{Result, bail};
 use input_server::{InputServer, RenewalRequest, WriteRequest};
 use numbers::{
-    Drift, InputNumber, LeaseLength, Moment, ObjectNumber, OutputNumber, ServerCount, Time, Version,
+    Drift, InputNumber, LeaseLength, Moment, ObjectNumber, OperationNumber, OutputNumber,
+    ServerCount, Time, Version,
 };
-use output_server::{OutputServer, Renewal};
+use output_server::OutputServer;
 use quorum::Majority;
-use rules::{Log, Message, Pairs, Parts};
+use rules::{InRange, Log, Message, Pair, Pairs, Renewal, Renewed};
 
 #[derive(Drop)]
 pub(crate) struct Stage {
@@ -53,6 +54,14 @@ impl Stage {
         Ok(())
     }
 
+    // That version of the object.
+    fn pair(&self, version: Version) -> Result<InRange<Pair>> {
+        Ok(InRange::alone(Pair {
+            object: self.object.get(),
+            version,
+        })?)
+    }
+
     // Begins a line with the clock.
     fn begin(&self, rt: &impl Print) -> Result<()> {
         let clock = self.input.clock();
@@ -77,8 +86,13 @@ impl Stage {
         print!(rt; "output server is read")?;
         let before = self.made;
         let mut log = Log::new(&mut self.log, before);
-        self.output
-            .answer_read(self.output_number, &self.inputs, 3, self.object, &mut log)?;
+        self.output.answer_read(
+            self.output_number,
+            &self.inputs,
+            OperationNumber::try_from(3)?,
+            self.object,
+            &mut log,
+        )?;
         self.made = log.made();
         self.end(rt, before)
     }
@@ -96,9 +110,8 @@ impl Stage {
         let before = self.made;
         let request = WriteRequest {
             outputs: self.outputs,
-            operation,
-            object: self.object,
-            version,
+            operation: OperationNumber::try_from(operation)?,
+            pair: self.pair(version)?,
             value,
         };
         let mut log = Log::new(&mut self.log, before);
@@ -116,12 +129,9 @@ impl Stage {
         self.begin(rt)?;
         print!(rt; "[{number}] ")?;
         let before = self.made;
-        if let Some(brought) = brought_in(&self.log[number - 1]) {
-            self.renewed(rt, brought)?;
-            return self.end(rt, before);
-        }
         match self.log[number - 1] {
-            Message::RenewalRequest { parts, stamp, .. } => self.asked(rt, parts, stamp)?,
+            Message::RenewalRequest { renewal, .. } => self.asked(rt, renewal)?,
+            Message::RenewalAnswer { renewed, .. } => self.renewed(rt, renewed)?,
             Message::Invalidation { version, .. } => self.told(rt, version)?,
             Message::InvalidationAnswer { list, .. } => self.acknowledged(rt, list)?,
             // no other kind is for one of the two
@@ -131,13 +141,11 @@ impl Stage {
     }
 
     // A renewal request reaches the input server.
-    fn asked(&mut self, rt: &impl Print, parts: Parts, stamp: Time) -> Result<()> {
+    fn asked(&mut self, rt: &impl Print, renewal: Renewal) -> Result<()> {
         let before = self.made;
         let request = RenewalRequest {
             output: self.output_number,
-            parts,
-            object: self.object,
-            stamp,
+            renewal: InRange::alone(renewal)?,
             lease: self.lease,
         };
         let mut log = Log::new(&mut self.log, before);
@@ -155,20 +163,16 @@ impl Stage {
 
     // Whether the message at that place grants a lease.
     fn grants(&self, place: usize) -> bool {
-        matches!(self.log.get(place), Some(Message::RenewalAnswer { length, .. }) if *length > 0)
+        matches!(self.log.get(place), Some(Message::RenewalAnswer { renewed, .. }) if renewed.length > 0)
     }
 
     // An invalidation reaches the output server.
     fn told(&mut self, rt: &impl Print, version: Version) -> Result<()> {
         print!(rt; "reaches the output server")?;
+        let pair = self.pair(version)?;
         let mut log = Log::new(&mut self.log, self.made);
-        self.output.take_invalidation(
-            self.output_number,
-            self.input_number,
-            self.object,
-            version,
-            &mut log,
-        )?;
+        self.output
+            .take_invalidation(self.output_number, self.input_number, &pair, &mut log)?;
         self.made = log.made();
         Ok(())
     }
@@ -180,32 +184,23 @@ impl Stage {
             "reaches the input server, which notes that the output server knows {versions}"
         )?;
         self.input
-            .take_acknowledgement(self.output_number, list.as_slice());
+            .take_acknowledgement(self.output_number, &InRange::alone(list)?);
         Ok(())
     }
 
     // A renewal answer reaches the output server.
-    fn renewed(&mut self, rt: &impl Print, brought: Brought) -> Result<()> {
-        let renewal = Renewal {
-            parts: brought.parts,
-            object: self.object,
-            version: brought.version,
-            value: brought.value,
-            epoch: brought.epoch,
-            stamp: Moment::try_from(brought.stamp)?,
-            length: LeaseLength::try_from(u64::from(brought.length))?,
-            list: brought.list,
-        };
+    fn renewed(&mut self, rt: &impl Print, renewed: Renewed) -> Result<()> {
+        let renewed = InRange::alone(renewed)?;
         print!(rt; "reaches the output server")?;
-        if brought.length > 0 {
-            let until = renewal.stamp.lease_end(renewal.length, self.drift);
+        if renewed.length().micros() > 0 {
+            let until = renewed.stamp().lease_end(renewed.length(), self.drift);
             print!(rt; ", which counts on a lease until {until}")?;
         }
         let mut log = Log::new(&mut self.log, self.made);
         self.output.take_renewal(
             self.output_number,
             self.input_number,
-            &renewal,
+            &renewed,
             self.drift,
             &mut log,
         )?;

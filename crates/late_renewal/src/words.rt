@@ -1,7 +1,6 @@
 // Messages in words of this story's own: what it prints is kept, and there is one server of each kind.
-use numbers::{Epoch, Time, Version};
 use quorum::MemberSet;
-use rules::{Message, Pairs, Parts};
+use rules::{Message, Pairs, Parts, Renewed};
 use std::fmt;
 
 // A message, as it is told to a reader.
@@ -40,59 +39,25 @@ impl fmt::Display for Versions {
 }
 
 // What a renewal answer brings.
-// The fields are those of the message, before any of them is checked: a `Renewal` has checked ones.
 #[derive(Clone, Copy)]
-pub(crate) struct Brought {
-    pub(crate) parts: Parts,
-    pub(crate) version: Version,
-    pub(crate) value: u64,
-    pub(crate) epoch: Epoch,
-    pub(crate) stamp: Time,
-    pub(crate) length: u32,
-    pub(crate) list: Pairs,
-}
-
-// What the message brings, if it is a renewal answer.
-pub(crate) fn brought_in(message: &Message) -> Option<Brought> {
-    match message {
-        Message::RenewalAnswer {
-            parts,
-            version,
-            value,
-            epoch,
-            stamp,
-            length,
-            list,
-            ..
-        } => Some(Brought {
-            parts: *parts,
-            version: *version,
-            value: *value,
-            epoch: *epoch,
-            stamp: *stamp,
-            length: *length,
-            list: *list,
-        }),
-        _ => None,
-    }
-}
+struct Brought(Renewed);
 
 impl fmt::Display for Brought {
     fn fmt<W: fmt::Write>(&self, f: &mut fmt::Formatter<W>) -> fmt::Result {
-        let epoch = self.epoch;
+        let epoch = self.0.epoch;
         write!(f, "answers epoch {epoch}")?;
-        if self.parts.has_object() {
-            let version = self.version;
-            let value = self.value;
+        if self.0.renewal.parts.has_object() {
+            let version = self.0.version;
+            let value = self.0.value;
             write!(f, ", version {version}, value {value}")?;
         }
-        if self.parts.has_volume() {
-            let length = self.length;
-            let stamp = self.stamp;
+        if self.0.renewal.parts.has_volume() {
+            let length = self.0.length;
+            let stamp = self.0.renewal.stamp;
             write!(f, ", a lease of {length} from {stamp}")?;
         }
-        if self.list.len() > 0 {
-            let versions = Versions(self.list);
+        if self.0.list.len() > 0 {
+            let versions = Versions(self.0.list);
             write!(f, ", still to tell {versions}")?;
         }
         Ok(())
@@ -101,17 +66,16 @@ impl fmt::Display for Brought {
 
 impl<'a> fmt::Display for Words<'a> {
     fn fmt<W: fmt::Write>(&self, f: &mut fmt::Formatter<W>) -> fmt::Result {
-        if let Some(brought) = brought_in(self.0) {
-            return write!(f, "{brought}");
-        }
         match self.0 {
             Message::ReadAnswer { version, value, .. } => {
                 write!(f, "answers version {version}, value {value}")
             }
-            Message::RenewalRequest { parts, stamp, .. } => {
-                let parts = parts_in_words(*parts);
+            Message::RenewalRequest { renewal, .. } => {
+                let parts = parts_in_words(renewal.parts);
+                let stamp = renewal.stamp;
                 write!(f, "asks for {parts}, stamped {stamp}")
             }
+            Message::RenewalAnswer { renewed, .. } => write!(f, "{}", Brought(*renewed)),
             Message::Invalidation { version, .. } => {
                 write!(f, "tells the output server of version {version}")
             }
@@ -120,12 +84,8 @@ impl<'a> fmt::Display for Words<'a> {
                 let versions = Versions(*list);
                 write!(f, "acknowledges {versions}")
             }
-            // told above, and kinds that this story does not have
-            Message::RenewalAnswer { .. }
-            | Message::ClockQuestion { .. }
-            | Message::ClockAnswer { .. }
-            | Message::WriteRequest { .. }
-            | Message::ReadRequest { .. } => f.write_str("says something else"),
+            // kinds that this story does not have
+            _ => f.write_str("says something else"),
         }
     }
 }

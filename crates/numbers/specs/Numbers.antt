@@ -26,6 +26,10 @@ last_time = 2 ^ 40
 abbrev pub longest : ℕ
 longest = 1000000000
 
+-- the last operation's number; the first is 1
+abbrev pub last_operation : ℕ
+last_operation = 1024
+
 -- ---- versions
 
 abbrev pub none : Version
@@ -52,8 +56,12 @@ raised v to = cond (nat_lt v.0 to.0) to v
 
 -- ---- epochs and times
 
+-- no epoch follows it
+abbrev pub last_epoch : ℕ
+last_epoch = 65536
+
 abbrev pub is_epoch : Epoch → Bool
-is_epoch e = between 1 65536 e.0
+is_epoch e = between 1 last_epoch e.0
 
 abbrev pub later : Epoch → Epoch → Epoch
 later e to = cond (nat_lt e.0 to.0) to e

@@ -38,6 +38,15 @@ impl Kind for Servers {
     const LIMIT: u8 = 9;
 }
 
+// How many objects there are: 0 to 16.
+pub enum Objects {}
+
+impl Kind for Objects {
+    ghost LIMIT = { 17 };
+
+    const LIMIT: u8 = 17;
+}
+
 pub type InputNumber = Number<Input>;
 
 pub type OutputNumber = Number<Output>;
@@ -45,3 +54,5 @@ pub type OutputNumber = Number<Output>;
 pub type ObjectNumber = Number<Object>;
 
 pub type ServerCount = Number<Servers>;
+
+pub type ObjectCount = Number<Objects>;

@@ -6,6 +6,7 @@ mod epoch;
 mod kinds;
 mod moment;
 mod numbering;
+mod operation_number;
 mod out_of_range;
 #[cfg(test)]
 mod tests;
@@ -14,10 +15,12 @@ mod version;
 
 pub use epoch::Epoch;
 pub use kinds::{
-    Input, InputNumber, Object, ObjectNumber, Output, OutputNumber, ServerCount, Servers,
+    Input, InputNumber, Object, ObjectCount, ObjectNumber, Objects, Output, OutputNumber,
+    ServerCount, Servers,
 };
 pub use moment::{Drift, LeaseLength, Moment};
 pub use numbering::{Kind, Number};
+pub use operation_number::OperationNumber;
 pub use out_of_range::OutOfRange;
 pub use time::Time;
 pub use version::Version;

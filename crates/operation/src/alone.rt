@@ -1,33 +1,27 @@
 // What a state that is kept alone accepts.
-ghost use Rattle.std.specs.Prelude.{◌≡◌, ◌&&◌, ◌==◌};
+ghost use Rattle.std.specs.Prelude.{◌≡◌, ◌↔◌, ◌&&◌, ◌==◌, IsTrue, IsNone, IfSome};
 ghost use Rattle.numbers.specs.Numbers.{between};
 ghost use Rattle.rules.specs.Operation.{Operation};
 ghost use Rattle.rules.specs.Ranges.{operation_fits, state_fits, has_room};
 ghost use Rattle.operation.specs.Alone.{too_many, widest, own_number, refusal_alone};
-ghost use Rattle.operation.specs.Counts.{counts_of};
+ghost use Rattle.rules.specs.Counts.{counts_of};
 ghost use Rattle.operation.specs.Says.{Accepted};
 
-use crate::ranges::Counts;
-use numbers::{Input, Kind, Object, Output};
+use numbers::{Kind, Object, ObjectCount, ServerCount};
 use quorum::{QuorumSystem, Refusal, Systems};
-use rules::{MOST_OPERATIONS, Message};
+use rules::{Counts, MOST_OPERATIONS, Message};
 
-// Whether a system has more members than a field has servers on a side.
-fn too_many<I: QuorumSystem, O: QuorumSystem>(systems: &Systems<I, O>) -> bool
-    ensures { result ≡ too_many (I.QuorumSystem.meaning systems.now.inputs) (O.QuorumSystem.meaning systems.now.outputs) }
+// The widest ranges that a field over these systems has: none, where one has more members than a field has
+// servers on a side.
+fn widest<I: QuorumSystem, O: QuorumSystem>(systems: &Systems<I, O>) -> Option<Counts>
+    ensures none { IsNone result ↔ IsTrue (too_many (I.meaning systems.now.inputs) (O.meaning systems.now.outputs)) }
+    ensures some { IfSome result (λ c. counts_of c ≡ widest (I.meaning systems.now.inputs) (O.meaning systems.now.outputs)) }
 {
-    systems.inputs.count() > Input::LIMIT || systems.outputs.count() > Output::LIMIT
-}
-
-// The widest ranges that a field over these systems has.
-fn widest<I: QuorumSystem, O: QuorumSystem>(systems: &Systems<I, O>) -> Counts
-    ensures { counts_of result ≡ widest (I.QuorumSystem.meaning systems.now.inputs) (O.QuorumSystem.meaning systems.now.outputs) }
-{
-    Counts {
-        inputs: systems.inputs.count(),
-        outputs: systems.outputs.count(),
-        objects: Object::LIMIT,
-    }
+    Some(Counts {
+        inputs: ServerCount::try_from(systems.inputs.count()).ok()?,
+        outputs: ServerCount::try_from(systems.outputs.count()).ok()?,
+        objects: ObjectCount::try_from(Object::LIMIT).ok()?,
+    })
 }
 
 // A state of an operation: what it means to the rules, and so which messages it accepts.
@@ -73,10 +67,9 @@ pub(crate) trait State: Sized {
     ) -> Result<Self, (Refusal, Self)>
         ensures { Accepted (refusal_alone (I.QuorumSystem.meaning systems.now.inputs) (O.QuorumSystem.meaning systems.now.outputs) (meaning self) message.now) self result }
     {
-        if too_many(systems) {
+        let Some(counts) = widest(systems) else {
             return Err((Refusal::TooManyMembers, self));
-        }
-        let counts = widest(systems);
+        };
         if counts.fit(message) && self.is_named(message, counts) {
             Ok(self)
         } else {

@@ -8,12 +8,11 @@ ghost use Rattle.operation.specs.States.{asking_of, sending_of};
 
 use crate::alone::State;
 use crate::asking::AskingWrite;
-use crate::ranges::Counts;
 use crate::sending::SendingWrite;
 use crate::steps::AskingStep;
 use numbers::Version;
 use quorum::{MemberSet, QuorumSystem, Refusal, Systems};
-use rules::{Message, SERVERS};
+use rules::{Counts, Message, SERVERS};
 
 impl AskingWrite {
     // A write of a value to an object, which has heard nothing yet.
@@ -91,8 +90,8 @@ impl State for AskingWrite {
         // any clock of 16 bits is in range, which the check knows of a number that is read
         let _clock = self.clock;
         self.operation == operation
-            && self.object < counts.objects
-            && self.senders.is_within(counts.inputs)
+            && self.object < counts.objects.get()
+            && self.senders.is_within(counts.inputs.get())
     }
 
     fn has_room(&self) -> bool {

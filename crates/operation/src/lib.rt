@@ -6,7 +6,6 @@ mod answers;
 mod asking;
 mod asks;
 mod places;
-mod ranges;
 mod read;
 mod reads;
 mod sending;
@@ -16,7 +15,6 @@ mod table;
 mod tells;
 
 pub use asking::AskingWrite;
-pub use ranges::Counts;
 pub use read::Read;
 pub use sending::SendingWrite;
 pub use steps::{AskingStep, End, Step};

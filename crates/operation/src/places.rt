@@ -1,12 +1,12 @@
 // Whether a place of the table is in range.
 ghost use Rattle.std.specs.Prelude.{◌≡◌};
 ghost use Rattle.rules.specs.Ranges.{state_fits, has_room};
-ghost use Rattle.operation.specs.Counts.{counts_of};
+ghost use Rattle.rules.specs.Counts.{counts_of};
 ghost use Rattle.operation.specs.States.{operation_of};
 
 use crate::alone::State;
-use crate::ranges::Counts;
 use crate::table::Operation;
+use rules::Counts;
 
 impl Operation {
     // Whether the state is in range as that of the operation with this number.

@@ -7,12 +7,11 @@ ghost use Rattle.operation.specs.Says.{HandsBack, read_step, read_says};
 ghost use Rattle.operation.specs.States.{reading_of};
 
 use crate::alone::State;
-use crate::ranges::Counts;
 use crate::read::Read;
 use crate::steps::{End, Step};
 use numbers::Version;
 use quorum::{MemberSet, QuorumSystem, Refusal, Systems};
-use rules::Message;
+use rules::{Counts, Message};
 
 impl Read {
     // A read of an object, which has heard nothing yet.
@@ -103,8 +102,8 @@ impl State for Read {
 
     fn fits(&self, counts: Counts, operation: u16) -> bool {
         self.operation == operation
-            && self.object < counts.objects
-            && self.senders.is_within(counts.outputs)
+            && self.object < counts.objects.get()
+            && self.senders.is_within(counts.outputs.get())
             && (self.version == Version::NONE || self.version.is_version())
     }
 

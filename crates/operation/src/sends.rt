@@ -5,18 +5,17 @@ ghost use Rattle.rules.specs.Operation.{sending, hears_named, named_by, counts, 
 ghost use Rattle.rules.specs.Ranges.{named_fit};
 ghost use Rattle.rules.specs.Reaction.{sends_next};
 ghost use Rattle.operation.specs.Alone.{alone};
-ghost use Rattle.operation.specs.Counts.{counts_of};
+ghost use Rattle.rules.specs.Counts.{counts_of};
 ghost use Rattle.operation.specs.Gathered.{gathered};
 ghost use Rattle.operation.specs.Says.{HandsBack, sending_step, sending_says};
 ghost use Rattle.operation.specs.States.{sending_of};
 
 use crate::alone::State;
-use crate::ranges::Counts;
 use crate::sending::SendingWrite;
 use crate::steps::{End, Step};
 use numbers::{Input, Kind};
 use quorum::{MemberSet, QuorumSystem, Refusal, Systems};
-use rules::Message;
+use rules::{Counts, Message};
 
 impl SendingWrite {
     // One message more. A write answer is gathered; once enough output servers count, the write has
@@ -131,11 +130,11 @@ impl SendingWrite {
     }
 
     fn named_fits(&self, input: u8, counts: Counts) -> bool
-        ensures { result ≡ (if nat_lt input counts.inputs then nat_lt (named_by self.now.named input) (2 ^ counts.outputs) else (named_by self.now.named input == 0)) }
+        ensures { result ≡ (if nat_lt input counts.inputs.number then nat_lt (named_by self.now.named input) (2 ^ counts.outputs.number) else (named_by self.now.named input == 0)) }
     {
         let named = self.named_by(input);
-        if input < counts.inputs {
-            named.is_within(counts.outputs)
+        if input < counts.inputs.get() {
+            named.is_within(counts.outputs.get())
         } else {
             named == MemberSet::EMPTY
         }
@@ -151,7 +150,7 @@ impl State for SendingWrite {
 
     fn fits(&self, counts: Counts, operation: u16) -> bool {
         self.operation == operation
-            && self.object < counts.objects
+            && self.object < counts.objects.get()
             && self.version.is_version()
             && self.named_fit(counts)
     }

@@ -3,7 +3,7 @@
 use numbers::{Epoch, Time, Version};
 use operation::Counts;
 use quorum::MemberSet;
-use rules::{Message, Pair, Pairs, Parts};
+use rules::{Message, Pair, Pairs, Parts, Renewal, Renewed};
 use std::process::Abort;
 
 const LAST_TIME: Time = Time(1_099_511_627_776);
@@ -136,9 +136,11 @@ fn renewal_request(output: u8, input: u8, object: u8, stamp: Time) -> Message {
     Message::RenewalRequest {
         output,
         input,
-        parts: Parts::Both,
-        object,
-        stamp,
+        renewal: Renewal {
+            parts: Parts::Both,
+            object,
+            stamp,
+        },
     }
 }
 
@@ -161,14 +163,18 @@ fn renewal(parts: Parts, version: Version, value: u64, length: u32, list: Pairs)
     Message::RenewalAnswer {
         input: 2,
         output: 1,
-        parts,
-        object: 3,
-        version,
-        value,
-        epoch: Epoch(65_536),
-        stamp: LAST_TIME,
-        length,
-        list,
+        renewed: Renewed {
+            renewal: Renewal {
+                parts,
+                object: 3,
+                stamp: LAST_TIME,
+            },
+            version,
+            value,
+            epoch: Epoch(65_536),
+            length,
+            list,
+        },
     }
 }
 
@@ -224,14 +230,18 @@ fn renewal_of(input: u8, output: u8, object: u8, epoch: Epoch, stamp: Time) -> M
     Message::RenewalAnswer {
         input,
         output,
-        parts: Parts::Volume,
-        object,
-        version: Version::NONE,
-        value: 0,
-        epoch,
-        stamp,
-        length: 1,
-        list: Pairs::empty(),
+        renewed: Renewed {
+            renewal: Renewal {
+                parts: Parts::Volume,
+                object,
+                stamp,
+            },
+            version: Version::NONE,
+            value: 0,
+            epoch,
+            length: 1,
+            list: Pairs::empty(),
+        },
     }
 }
 

@@ -7,8 +7,6 @@ use Rattle.rules.specs.Output.{no_copy}
 
 -- known raised, where the object has a place
 abbrev pub known_raised : Pair → List Copied → List Copied
-known_raised p cs = slice_set cs p.object (record {
-  got = (slice_index_or cs p.object no_copy).got;
-  known = raised (slice_index_or cs p.object no_copy).known p.version;
-  epoch = (slice_index_or cs p.object no_copy).epoch;
-})
+known_raised p cs =
+    let c : Copied = slice_index_or cs p.object no_copy in
+    slice_set cs p.object (record c { known = raised c.known p.version })

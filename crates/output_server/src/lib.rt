@@ -3,10 +3,8 @@
 
 mod link;
 mod reading;
-mod renewal;
 mod server;
 mod steps;
 mod taking;
 
-pub use renewal::Renewal;
 pub use server::OutputServer;

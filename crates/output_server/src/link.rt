@@ -1,12 +1,11 @@
 // What an output server keeps of one input server: told versions, copies and the lease.
 ghost use Rattle.std.specs.Prelude.{◌≡◌};
 ghost use Rattle.output_server.specs.Hearing.{known_raised};
-ghost use Rattle.output_server.specs.Renewing.{copy_accepted, with_copy, with_lease, renewed, accepts_after};
-ghost use Rattle.rules.specs.Output.{sound_copy, hears, hears_all};
+ghost use Rattle.output_server.specs.Renewing.{renewed as renewed_by, accepts_after};
+ghost use Rattle.rules.specs.Output.{sound_copy, hears, hears_all, accepts, takes_copy, takes_lease};
 
-use crate::renewal::Renewal;
 use numbers::{Drift, Epoch, Version};
-use rules::{Copied, Link, Pair};
+use rules::{Copied, InRange, Link, Pair, Renewed};
 
 // Something was got, nothing newer is known, and it is no older than the lease's epoch.
 pub(crate) fn is_sound(copied: Copied, epoch: Epoch) -> bool
@@ -43,42 +42,44 @@ fn hear_all(link: &mut Link, list: &[Pair])
 
 // A renewal answer: first what its list tells of, then its copy, then its lease. Says whether the
 // copy was accepted.
-pub(crate) fn renew(link: &mut Link, renewal: &Renewal, drift: Drift) -> bool
-    ensures says { result ≡ accepts_after renewal.now link.old }
-    ensures after { link.new ≡ renewed drift.thousandths renewal.now link.old }
+pub(crate) fn renew(link: &mut Link, renewed: &InRange<Renewed>, drift: Drift) -> bool
+    ensures says { result ≡ accepts_after renewed.now.value link.old }
+    ensures after { link.new ≡ renewed_by drift.thousandths renewed.now.value link.old }
 {
-    hear_all(link, renewal.list.as_slice());
-    let accepted = take_copy(link, renewal);
-    take_lease(link, renewal, drift);
+    hear_all(link, renewed.value.list.as_slice());
+    let accepted = take_copy(link, renewed);
+    take_lease(link, renewed, drift);
     accepted
 }
 
 // An object part is accepted if nothing newer is known. Says whether it was.
-fn take_copy(link: &mut Link, renewal: &Renewal) -> bool
-    ensures says { result ≡ copy_accepted renewal.now link.old }
-    ensures after { link.new ≡ with_copy renewal.now link.old }
+fn take_copy(link: &mut Link, renewed: &InRange<Renewed>) -> bool
+    ensures says { result ≡ accepts renewed.now.value link.old }
+    ensures after { link.new ≡ takes_copy renewed.now.value link.old }
 {
-    let place = renewal.object.index();
+    let place = renewed.object().index();
     let copied = link.copies[place];
-    let accepted = renewal.parts.has_object() && copied.known <= renewal.version;
+    let version = renewed.value.version;
+    let accepted = renewed.value.renewal.parts.has_object() && copied.known <= version;
     if accepted {
         link.copies[place] = Copied {
-            got: renewal.version,
-            known: renewal.version,
-            epoch: copied.epoch.max(renewal.epoch),
+            got: version,
+            known: version,
+            epoch: copied.epoch.max(renewed.value.epoch),
         };
     }
     accepted
 }
 
 // A volume part raises the lease's epoch, and its end where a lease was granted.
-fn take_lease(link: &mut Link, renewal: &Renewal, drift: Drift)
-    ensures { link.new ≡ with_lease drift.thousandths renewal.now link.old }
+fn take_lease(link: &mut Link, renewed: &InRange<Renewed>, drift: Drift)
+    ensures { link.new ≡ takes_lease drift.thousandths renewed.now.value link.old }
 {
-    if renewal.parts.has_volume() {
-        link.epoch = link.epoch.max(renewal.epoch);
-        if renewal.length.micros() > 0 {
-            let end = renewal.stamp.lease_end(renewal.length, drift);
+    if renewed.value.renewal.parts.has_volume() {
+        link.epoch = link.epoch.max(renewed.value.epoch);
+        let length = renewed.length();
+        if length.micros() > 0 {
+            let end = renewed.stamp().lease_end(length, drift);
             link.until = link.until.max(end);
         }
     }

@@ -1,7 +1,7 @@
 // Whether an output server may answer a read, and what it asks for where it may not.
 ghost use Rattle.std.specs.Prelude.{◌≡◌, ◌+◌, ◌<◌, ◌≤◌, length};
 ghost use Rattle.quorum.specs.Sets.{set_of};
-ghost use Rattle.rules.specs.Output.{sound, leased, good, covers, valid, renewal, renewals};
+ghost use Rattle.rules.specs.Output.{sound, leased, good, covers, valid, asked, asks, asks_all};
 ghost use Rattle.rules.specs.Steps.{Logs};
 ghost use Rattle.output_server.specs.Views.{output_of};
 
@@ -9,7 +9,7 @@ use crate::link::is_sound;
 use crate::server::OutputServer;
 use numbers::{ObjectNumber, OutputNumber, ServerCount};
 use quorum::{MemberSet, QuorumSystem};
-use rules::{Log, Message, Parts};
+use rules::{Log, Message, Parts, Renewal};
 
 impl OutputServer {
     // The validity condition: nothing newer than the newest is known, and the input servers whose
@@ -77,7 +77,7 @@ impl OutputServer {
         log: &mut Log,
     )
         requires { log.old.made + 9 ≤ length log.old.messages.now }
-        ensures { Logs log.old log.new (renewals me.number count.number object.number (output_of self.now)) }
+        ensures { Logs log.old log.new (asks_all me.number count.number object.number (output_of self.now)) }
     {
         // a loop: of what a closure changes for `for_each`, a proof knows nothing afterwards
         for input in 0..count.get() {
@@ -88,16 +88,26 @@ impl OutputServer {
     // One to an input server that is not good.
     fn ask_renewal(&self, me: OutputNumber, input: u8, object: ObjectNumber, log: &mut Log)
         requires { (input < 8) × (log.old.made < length log.old.messages.now) }
-        ensures { Logs log.old log.new (renewal me.number object.number (output_of self.now) input) }
+        ensures { Logs log.old log.new (asks me.number object.number (output_of self.now) input) }
     {
         if !self.is_good(input, object) {
             log.push(Message::RenewalRequest {
                 output: me.get(),
                 input,
-                parts: Parts::of(!self.has_sound(input, object), !self.is_leased(input)),
-                object: object.get(),
-                stamp: self.clock(),
+                renewal: self.asked(input, object),
             });
+        }
+    }
+
+    // What is asked of an input server that is not good: what it lacks.
+    fn asked(&self, input: u8, object: ObjectNumber) -> Renewal
+        requires { input < 8 }
+        ensures { result ≡ asked object.number (output_of self.now) input }
+    {
+        Renewal {
+            parts: Parts::of(!self.has_sound(input, object), !self.is_leased(input)),
+            object: object.get(),
+            stamp: self.clock(),
         }
     }
 }

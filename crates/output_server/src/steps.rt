@@ -3,21 +3,23 @@
 // refuses the server and the log themselves are as they were, and not only what they mean. Where it
 // logs, `loan` says that the log is still the same loan. `me` is the server's own number: it is that of
 // its place in a field, and no server keeps it a second time.
-ghost use Rattle.std.specs.Prelude.{◌≡◌, false, is_ok};
+ghost use Rattle.std.specs.Prelude.{◌≡◌, OnErr};
 ghost use Rattle.rules.specs.Answers.{acceptance};
 ghost use Rattle.rules.specs.Output.{first_output};
 ghost use Rattle.rules.specs.Steps.{step};
 ghost use Rattle.output_server.specs.Steps.{ticking, read_step, answer_step, invalidation_step};
 ghost use Rattle.output_server.specs.Views.{output_of};
 
-use crate::renewal::Renewal;
 use crate::server::OutputServer;
 use crate::taking::acknowledge;
 use numbers::{
-    Drift, Epoch, InputNumber, Moment, ObjectNumber, OutputNumber, ServerCount, Time, Version,
+    Drift, Epoch, InputNumber, Moment, ObjectNumber, OperationNumber, OutputNumber, ServerCount,
+    Time, Version,
 };
 use quorum::{QuorumSystem, Refusal};
-use rules::{Copied, Link, Log, Message, Newest, OBJECTS, Pair, Pairs, SERVERS};
+use rules::{
+    Copied, InRange, Link, Log, Message, Newest, OBJECTS, Pair, Pairs, Renewed, SERVERS,
+};
 
 impl OutputServer {
     // A server that was given nothing yet.
@@ -55,7 +57,7 @@ impl OutputServer {
     // Both kinds of servers share `later`; numbers know no refusals, so each names this one.
     pub fn tick(&mut self, increment: u64) -> Result<(), Refusal>
         ensures does { ticking increment (output_of self.old) ≡ (acceptance result, output_of self.new) }
-        ensures same { is_ok result ≡ false → self.new ≡ self.old }
+        ensures same { OnErr result (self.new ≡ self.old) }
     {
         self.clock = self.clock.later(increment).ok_or(Refusal::PastLastTime)?;
         Ok(())
@@ -67,12 +69,12 @@ impl OutputServer {
         &self,
         me: OutputNumber,
         inputs: &I,
-        operation: u16,
+        operation: OperationNumber,
         object: ObjectNumber,
         log: &mut Log,
     ) -> Result<(), Refusal>
-        ensures does { read_step (I.meaning inputs.now) me.number operation object.number (output_of self.now) log.old.made log.old.messages.now ≡ step result (output_of self.now) log.new }
-        ensures same { is_ok result ≡ false → log.new ≡ log.old }
+        ensures does { read_step (I.meaning inputs.now) me.number operation.number object.number (output_of self.now) log.old.made log.old.messages.now ≡ step result (output_of self.now) log.new }
+        ensures same { OnErr result (log.new ≡ log.old) }
         ensures loan { log.new.messages.ghost_name ≡ log.old.messages.ghost_name }
     {
         let count = ServerCount::try_from(inputs.count()).map_err(|_| Refusal::TooManyMembers)?;
@@ -83,7 +85,7 @@ impl OutputServer {
             let newest = self.newest[object.index()];
             log.push(Message::ReadAnswer {
                 output: me.get(),
-                operation,
+                operation: operation.get(),
                 version: newest.version,
                 value: newest.value,
             });
@@ -93,55 +95,57 @@ impl OutputServer {
         Ok(())
     }
 
-    // An invalidation from an input server: what it tells of is known, and acknowledged.
+    /// An invalidation from an input server: the version that it tells of is known, and acknowledged. Refuses
+    /// 32 where the log has fewer than nine free places.
     #[tactic(auto, unfolding(rules::specs::Output::after_invalidation))]
     pub fn take_invalidation(
         &mut self,
         me: OutputNumber,
         input: InputNumber,
-        object: ObjectNumber,
-        version: Version,
+        pair: &InRange<Pair>,
         log: &mut Log,
     ) -> Result<(), Refusal>
-        ensures does { invalidation_step me.number input.number object.number version (output_of self.old) log.old.made log.old.messages.now ≡ step result (output_of self.new) log.new }
-        ensures same { is_ok result ≡ false → (self.new ≡ self.old) × (log.new ≡ log.old) }
+        ensures does {
+            let p = pair.now.value in
+            invalidation_step me.number input.number p.object p.version
+                (output_of self.old) log.old.made log.old.messages.now
+            ≡ step result (output_of self.new) log.new
+        }
+        ensures same { OnErr result ((self.new ≡ self.old) × (log.new ≡ log.old)) }
         ensures loan { log.new.messages.ghost_name ≡ log.old.messages.ghost_name }
     {
         if !log.has_room() {
             return Err(Refusal::NoRoomToDeliver);
         }
-        let pair = Pair {
-            object: object.get(),
-            version,
-        };
-        self.hear_from(input, pair);
-        acknowledge(me, input, Pairs::one(pair), log);
+        self.hear_from(input, pair.value);
+        acknowledge(me, input, Pairs::one(pair.value), log);
         Ok(())
     }
 
-    // A renewal answer from an input server: first what its list tells of, then its copy, then its
-    // lease. The list is acknowledged, unless it is empty. The drift is the field's, and no part of what
-    // the message brings.
-    #[tactic(auto, unfolding(rules::specs::Output::after_answer))]
+    /// A renewal answer from an input server: first what its list tells of, then its copy, then its
+    /// lease. The list is acknowledged, unless it is empty. The drift is the field's, and no part of what
+    /// the message brings. Refuses 32 where the log has fewer than nine free places.
     pub fn take_renewal(
         &mut self,
         me: OutputNumber,
         input: InputNumber,
-        renewal: &Renewal,
+        renewed: &InRange<Renewed>,
         drift: Drift,
         log: &mut Log,
     ) -> Result<(), Refusal>
-        ensures does { answer_step drift.thousandths me.number input.number renewal.now.parts renewal.now.object.number renewal.now.version renewal.now.value renewal.now.epoch (record { 0 = renewal.now.stamp.micros }) renewal.now.length.micros renewal.now.list (output_of self.old) log.old.made log.old.messages.now ≡ step result (output_of self.new) log.new }
-        ensures same { is_ok result ≡ false → (self.new ≡ self.old) × (log.new ≡ log.old) }
+        ensures does {
+            answer_step drift.thousandths me.number input.number renewed.now.value
+                (output_of self.old) log.old.made log.old.messages.now
+            ≡ step result (output_of self.new) log.new
+        }
+        ensures same { OnErr result ((self.new ≡ self.old) × (log.new ≡ log.old)) }
         ensures loan { log.new.messages.ghost_name ≡ log.old.messages.ghost_name }
     {
         if !log.has_room() {
             return Err(Refusal::NoRoomToDeliver);
         }
-        if self.renew_link(input, renewal, drift) {
-            self.take_newest(renewal.object, renewal.version, renewal.value);
-        }
-        acknowledge(me, input, renewal.list, log);
+        self.renew_from(input, renewed, drift);
+        acknowledge(me, input, renewed.value.list, log);
         Ok(())
     }
 }

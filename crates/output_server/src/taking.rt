@@ -1,15 +1,13 @@
 // What becomes of the newest pair, and what is acknowledged.
 ghost use Rattle.std.specs.Prelude.{◌≡◌, ◌<◌, length};
-ghost use Rattle.rules.specs.Output.{link, hears, acknowledgement};
+ghost use Rattle.rules.specs.Output.{link, hears, after_answer, acknowledgement};
 ghost use Rattle.rules.specs.Steps.{Logs};
-ghost use Rattle.output_server.specs.Renewing.{renewed, accepts_renewal};
 ghost use Rattle.output_server.specs.Views.{output_of, with_link, with_newest};
 
 use crate::link::{hear, renew};
-use crate::renewal::Renewal;
 use crate::server::OutputServer;
-use numbers::{Drift, InputNumber, ObjectNumber, OutputNumber, Version};
-use rules::{Log, Message, Newest, Pair, Pairs};
+use numbers::{Drift, InputNumber, OutputNumber};
+use rules::{InRange, Log, Message, Newest, Pair, Pairs, Renewed};
 
 impl OutputServer {
     // An input server told of a version.
@@ -19,21 +17,35 @@ impl OutputServer {
         hear(&mut self.links[input.index()], pair);
     }
 
-    // A renewal answer changes what is kept of its sender. Says whether its copy was accepted.
-    pub(crate) fn renew_link(&mut self, input: InputNumber, renewal: &Renewal, drift: Drift) -> bool
-        ensures says { result ≡ accepts_renewal input.number renewal.now (output_of self.old) }
-        ensures after { output_of self.new ≡ with_link input.number (renewed drift.thousandths renewal.now (link (output_of self.old) input.number)) (output_of self.old) }
+    // A renewal answer changes what is kept of its sender, and where its copy is accepted and above the
+    // newest, that copy is the newest.
+    #[tactic(auto, unfolding(rules::specs::Output::after_answer))]
+    pub(crate) fn renew_from(
+        &mut self,
+        input: InputNumber,
+        renewed: &InRange<Renewed>,
+        drift: Drift,
+    )
+        ensures {
+            output_of self.new
+                ≡ after_answer drift.thousandths input.number renewed.now.value (output_of self.old)
+        }
     {
-        renew(&mut self.links[input.index()], renewal, drift)
+        if renew(&mut self.links[input.index()], renewed, drift) {
+            self.take_newest(renewed);
+        }
     }
 
     // A copy that is above the newest is the newest.
-    pub(crate) fn take_newest(&mut self, object: ObjectNumber, version: Version, value: u64)
-        ensures { output_of self.new ≡ with_newest object.number version value (output_of self.old) }
+    fn take_newest(&mut self, renewed: &InRange<Renewed>)
+        ensures { output_of self.new ≡ with_newest renewed.now.value (output_of self.old) }
     {
-        let newest = &mut self.newest[object.index()];
-        if version > newest.version {
-            *newest = Newest { version, value };
+        let newest = &mut self.newest[renewed.object().index()];
+        if renewed.value.version > newest.version {
+            *newest = Newest {
+                version: renewed.value.version,
+                value: renewed.value.value,
+            };
         }
     }
 }

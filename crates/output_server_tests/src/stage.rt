@@ -1,10 +1,10 @@
 // An output server with a log lent to it, and plain numbers in place of checked ones.
 use numbers::{
-    Drift, Epoch, InputNumber, LeaseLength, Moment, ObjectNumber, OutputNumber, Time, Version,
+    Drift, Epoch, InputNumber, Moment, ObjectNumber, OperationNumber, OutputNumber, Time, Version,
 };
-use output_server::{OutputServer, Renewal};
+use output_server::OutputServer;
 use quorum::Majority;
-use rules::{Log, Message, Pair, Pairs, Parts};
+use rules::{InRange, Log, Message, Pair, Pairs, Parts, Renewal, Renewed};
 use std::process::Abort;
 use std::test::*;
 
@@ -28,6 +28,7 @@ pub(crate) struct Stage {
     log: [Message; 12],
     inputs: Majority,
     me: OutputNumber,
+    operation: OperationNumber,
     object: ObjectNumber,
     drift: Drift,
 }
@@ -40,6 +41,7 @@ impl Stage {
             log: [Message::BLANK; 12],
             inputs: Majority::new(u64::from(inputs))?,
             me: OutputNumber::try_from(4)?,
+            operation: OperationNumber::try_from(9)?,
             object: ObjectNumber::try_from(3)?,
             drift: Drift::try_from(10)?,
         })
@@ -53,8 +55,7 @@ impl Stage {
     // A read request. Says how many messages are logged.
     pub(crate) fn read(&mut self) -> Result<usize, Fail> {
         let mut log = Log::new(&mut self.log, 0);
-        self.server
-            .answer_read(self.me, &self.inputs, 9, self.object, &mut log)?;
+        self.server.answer_read(self.me, &self.inputs, self.operation, self.object, &mut log)?;
         Ok(log.made())
     }
 
@@ -62,7 +63,7 @@ impl Stage {
     pub(crate) fn read_refused(&mut self) -> Option<u8> {
         let mut log = Log::new(&mut self.log, 0);
         self.server
-            .answer_read(self.me, &self.inputs, 9, self.object, &mut log)
+            .answer_read(self.me, &self.inputs, self.operation, self.object, &mut log)
             .err()
             .map(|refusal| refusal.number())
     }
@@ -70,20 +71,30 @@ impl Stage {
     // A renewal answer of an input server. Says how many messages are logged.
     pub(crate) fn renewed(&mut self, input: u8, answer: Answer) -> Result<usize, Fail> {
         let input = InputNumber::try_from(input)?;
-        let renewal = Renewal {
-            parts: answer.parts,
-            object: self.object,
+        let renewed = InRange::alone(Renewed {
+            renewal: Renewal {
+                parts: answer.parts,
+                object: self.object.get(),
+                stamp: Time(answer.stamp),
+            },
             version: answer.version,
             value: answer.value,
             epoch: Epoch(answer.epoch),
-            stamp: Moment::try_from(Time(answer.stamp))?,
-            length: LeaseLength::try_from(u64::from(answer.length))?,
+            length: answer.length,
             list: answer.list,
-        };
+        })?;
         let mut log = Log::new(&mut self.log, 0);
         self.server
-            .take_renewal(self.me, input, &renewal, self.drift, &mut log)?;
+            .take_renewal(self.me, input, &renewed, self.drift, &mut log)?;
         Ok(log.made())
+    }
+
+    // That version of object 3.
+    fn pair(&self, version: Version) -> Result<InRange<Pair>, Fail> {
+        Ok(InRange::alone(Pair {
+            object: self.object.get(),
+            version,
+        })?)
     }
 
     // An invalidation of object 3 by an input server, and that it is acknowledged.
@@ -94,9 +105,10 @@ impl Stage {
         version: Version,
     ) -> Result<(), Fail> {
         let number = InputNumber::try_from(input)?;
+        let pair = self.pair(version)?;
         let mut log = Log::new(&mut self.log, 0);
         self.server
-            .take_invalidation(self.me, number, self.object, version, &mut log)?;
+            .take_invalidation(self.me, number, &pair, &mut log)?;
         assert_eq!(rt; log.made(), 1);
         self.expect_acknowledged(rt, input, told(version))
     }
@@ -109,10 +121,11 @@ impl Stage {
         version: Version,
     ) -> Result<Option<u8>, Fail> {
         let number = InputNumber::try_from(input)?;
+        let pair = self.pair(version)?;
         let mut log = Log::new(&mut self.log, 4);
         let said = self
             .server
-            .take_invalidation(self.me, number, self.object, version, &mut log);
+            .take_invalidation(self.me, number, &pair, &mut log);
         Ok(said.err().map(|refusal| refusal.number()))
     }
 
@@ -196,9 +209,11 @@ impl Stage {
             Message::RenewalRequest {
                 output: 4,
                 input,
-                parts,
-                object: 3,
-                stamp: Time(stamp),
+                renewal: Renewal {
+                    parts,
+                    object: 3,
+                    stamp: Time(stamp),
+                },
             },
         )
     }

@@ -24,3 +24,8 @@ end_of (ReadEnded p v x) = read_ended p v.0 x
 abbrev pub delivery_says : Result Delivery Refusal → Said
 delivery_says (Ok d) = end_of d
 delivery_says (Err e) = refused (number_of e)
+
+-- a message that was handed to a server, with which no operation ends
+abbrev pub handing_says : Result (Unit {0}) Refusal → Said
+handing_says (Ok u) = nothing_ended
+handing_says (Err e) = refused (number_of e)

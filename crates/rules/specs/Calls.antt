@@ -175,16 +175,20 @@ receives inputs outputs (WriteAnswer i p t) s = handed_to inputs outputs (WriteA
 receives inputs outputs (ReadRequest p j o) s =
     quiet (post (answers_read inputs j p s.frame.counts.n o (output_at s j)) s)
 receives inputs outputs (ReadAnswer j p v x) s = handed_to inputs outputs (ReadAnswer j p v x) p s
-receives inputs outputs (RenewalRequest j i a o stamp) s =
-    quiet (post (answers_renewal i s.frame.lease j a o stamp (input_at s i) ∷ [])
-    (with_input i (after_renewal s.frame.lease j a o (input_at s i)) s))
-receives inputs outputs (RenewalAnswer i j a o v x e stamp length l) s =
-    quiet (post (acknowledgement j i l)
-    (with_output j (after_answer s.frame.drift i a o v x e stamp length (list_of l) (output_at s j)) s))
+receives inputs outputs (RenewalRequest j i r) s =
+    quiet (post (answers_renewal i s.frame.lease j r (input_at s i))
+    (with_input i (after_renewal s.frame.lease j r (input_at s i)) s))
+receives inputs outputs (RenewalAnswer i j y) s =
+    quiet (post (acknowledgement j i y.list)
+    (with_output j (after_answer s.frame.drift i y (output_at s j)) s))
 receives inputs outputs (Invalidation i j o v) s =
     quiet (post (answers_invalidation j i o v) (with_output j (after_invalidation i o v (output_at s j)) s))
 receives inputs outputs (InvalidationAnswer j i l) s =
     quiet (with_input i (acknowledges_all j (list_of l) (input_at s i)) s)
+
+-- a message is handed over if all its numbers are in range, and those of the operation that it names
+abbrev pub hands_over : System → System → Message → State → Outcome
+hands_over inputs outputs m s = if in_range m s then receives inputs outputs m s else refuse 33 s
 
 -- places past the end of a log hold this
 abbrev pub no_message : Message
@@ -197,5 +201,4 @@ unfoldable pub delivering : System → System → ℕ → State → Outcome
 delivering inputs outputs number s = when_open inputs outputs s
     (if number == 0 || nat_lt s.made number then refuse 31 s
     else if not (has_nine s) then refuse 32 s
-    else if not (in_range (message_at s number) s) then refuse 33 s
-    else receives inputs outputs (message_at s number) s)
+    else hands_over inputs outputs (message_at s number) s)

@@ -1,5 +1,5 @@
 -- An input server: what it keeps, who is shut out, and what it does with each kind of message.
-use Rattle.std.specs.Prelude.{ℕ, zero, suc, ◌+◌, max, Bool, false, cond, not, ◌&&◌, ◌||◌, List, [], ◌∷◌, ◌++◌, length, get_or, take, set, replicate, ◌==◌, nat_le, nat_lt, slice_index_or, slice_set}
+use Rattle.std.specs.Prelude.{ℕ, zero, suc, ◌+◌, max, Bool, false, if◌then◌else◌, not, ◌&&◌, ◌||◌, List, [], ◌∷◌, ◌++◌, length, take, replicate, ◌==◌, nat_le, nat_lt, slice_index_or, slice_set}
 use Rattle.quorum.specs.Sets.{set_of}
 use Rattle.numbers.specs.declared.epoch.Epoch.{Epoch}
 use Rattle.rules.specs.declared.kept.Held.{Held}
@@ -8,6 +8,8 @@ use Rattle.rules.specs.declared.message.Message.{Message}
 use Rattle.rules.specs.declared.message.Message.TheVariants.{ClockAnswer, WriteAnswer, RenewalAnswer, Invalidation}
 use Rattle.rules.specs.declared.parts.Parts.{Parts}
 use Rattle.rules.specs.declared.pairs.Pair.{Pair}
+use Rattle.rules.specs.declared.renewal.Renewal.{Renewal}
+use Rattle.rules.specs.declared.renewal.Renewed.{Renewed}
 use Rattle.numbers.specs.declared.time.Time.{Time}
 use Rattle.numbers.specs.declared.version.Version.{Version}
 use Rattle.rules.specs.Lists.{pairs, each}
@@ -47,7 +49,7 @@ abbrev pub last_read : Input → ℕ → ℕ → ℕ
 last_read I j o = (held I o).given.0
 
 abbrev pub last_ack : Input → ℕ → ℕ → ℕ
-last_ack I j o = (get_or (ledger I j).acked o none).0
+last_ack I j o = (slice_index_or (ledger I j).acked o none).0
 
 -- output server j is shut out for o
 abbrev pub is_shut_out : Input → ℕ → ℕ → Bool
@@ -67,12 +69,12 @@ names o (p ∷ ps) = p.object == o || names o ps
 -- the chain with the pair in the object's record, else at the end
 abbrev pub queued : Pair → List Pair → List Pair
 queued x [] = x ∷ []
-queued x (p ∷ ps) = cond (p.object == x.object) (x ∷ ps) (p ∷ queued x ps)
+queued x (p ∷ ps) = if p.object == x.object then x ∷ ps else p ∷ queued x ps
 
 -- the chain without the object's record, if its version is not above v
 abbrev pub freed : ℕ → Version → List Pair → List Pair
 freed o v [] = []
-freed o v (p ∷ ps) = cond (p.object == o && nat_le p.version.0 v.0) (freed o v ps) (p ∷ freed o v ps)
+freed o v (p ∷ ps) = if p.object == o && nat_le p.version.0 v.0 then freed o v ps else p ∷ freed o v ps
 
 -- the records in use
 abbrev pub used : List (List Pair) → ℕ
@@ -92,36 +94,30 @@ answers_clock i p I = ClockAnswer i p I.lc ∷ []
 
 -- take version and value if the version is above the one held
 unfoldable pub takes_write : ℕ → Version → ℕ → Input → Input
-takes_write o v x I = cond (nat_lt (held I o).version.0 v.0)
-    (record {
-      clock = I.clock;
-      lc = max I.lc (clock_of v);
-      objects = slice_set I.objects o (record { version = v; value = x; given = (held I o).given });
-      ledgers = I.ledgers;
-      waiting = I.waiting;
-    })
-    I
+takes_write o v x I =
+    if nat_lt (held I o).version.0 v.0
+    then record I { lc = max I.lc (clock_of v); objects = slice_set I.objects o (record (held I o) { version = v; value = x }) }
+    else I
 
 -- j has to be told of a write of o
 abbrev pub owed : Input → ℕ → ℕ → Bool
 owed I o j = not (last_read I j o == 0) && nat_le (last_ack I j o) (last_read I j o)
 
 abbrev pub with_chain : ℕ → List Pair → Epoch → Input → Input
-with_chain j c e I = record {
-  clock = I.clock;
-  lc = I.lc;
-  objects = I.objects;
-  ledgers = slice_set I.ledgers j (record { acked = (ledger I j).acked; epoch = e; until = (ledger I j).until });
+with_chain j c e I = record I {
+  ledgers = slice_set I.ledgers j (record (ledger I j) { epoch = e });
   waiting = slice_set I.waiting j c;
 }
 
 -- queue o with the version held for j, or free the chain of j and begin its next epoch
 unfoldable pub queues_for : ℕ → ℕ → Input → Input
-queues_for o j I = cond (owed I o j)
-    (cond (fits (record { object = o; version = (held I o).version }) j I.waiting)
-    (with_chain j (queued (record { object = o; version = (held I o).version }) (chain I j)) (ledger I j).epoch I)
-    (with_chain j [] (record { 0 = (ledger I j).epoch.0 + 1 }) I))
-    I
+queues_for o j I =
+    let x : Pair = record { object = o; version = (held I o).version } in
+    if owed I o j
+    then (if fits x j I.waiting
+    then with_chain j (queued x (chain I j)) (ledger I j).epoch I
+    else with_chain j [] (record { 0 = (ledger I j).epoch.0 + 1 }) I)
+    else I
 
 -- the same for each output server below m, in rising order
 unfoldable pub queues_all : ℕ → ℕ → Input → Input
@@ -131,9 +127,13 @@ queues_all o (suc m) I = queues_for o m (queues_all o m I)
 abbrev pub after_write : ℕ → ℕ → Version → ℕ → Input → Input
 after_write m o v x I = queues_all o m (takes_write o v x I)
 
--- an invalidation to each output server below m that is not shut out
+-- an invalidation to output server j, unless it is shut out
+abbrev pub invalidation : ℕ → ℕ → Input → ℕ → List Message
+invalidation i o I j = if is_shut_out I o j then [] else Invalidation i j o (held I o).version ∷ []
+
+-- the same to each output server below m
 abbrev pub invalidations : ℕ → ℕ → ℕ → Input → List Message
-invalidations i m o I = each m (λ j. cond (is_shut_out I o j) [] (Invalidation i j o (held I o).version ∷ []))
+invalidations i m o I = each m (invalidation i o I)
 
 -- what is logged, of the server as it is after the write
 abbrev pub answers_write : ℕ → ℕ → ℕ → ℕ → Input → List Message
@@ -146,45 +146,42 @@ answers_write i p m o I =
 abbrev pub grants : Parts → ℕ → Input → Bool
 grants a j I = asks_volume a && nat_le (length (chain I j)) shown
 
-abbrev pub answers_renewal : ℕ → ℕ → ℕ → Parts → ℕ → Time → Input → Message
-answers_renewal i lease j a o stamp I =
-    RenewalAnswer i j a o
-    (cond (asks_object a) (held I o).version none)
-    (cond (asks_object a) (held I o).value 0)
-    (ledger I j).epoch
-    stamp
-    (cond (grants a j I) lease 0)
-    (cond (asks_volume a) (pairs (take shown (chain I j))) (pairs []))
+-- the answer to output server j
+abbrev pub renewed : ℕ → ℕ → Renewal → Input → Renewed
+renewed lease j r I = record {
+  renewal = r;
+  version = if asks_object r.parts then (held I r.object).version else none;
+  value = if asks_object r.parts then (held I r.object).value else 0;
+  epoch = (ledger I j).epoch;
+  length = if grants r.parts j I then lease else 0;
+  list = if asks_volume r.parts then pairs (take shown (chain I j)) else pairs [];
+}
 
-abbrev pub after_renewal : ℕ → ℕ → Parts → ℕ → Input → Input
-after_renewal lease j a o I = record {
-  clock = I.clock;
-  lc = I.lc;
-  objects = cond (asks_object a)
-      (slice_set I.objects o (record { version = (held I o).version; value = (held I o).value; given = (held I o).version }))
-      I.objects;
-  ledgers = cond (grants a j I)
-      (slice_set I.ledgers j (record { acked = (ledger I j).acked; epoch = (ledger I j).epoch; until = record { 0 = I.clock.0 + lease } }))
-      I.ledgers;
-  waiting = I.waiting;
+abbrev pub answers_renewal : ℕ → ℕ → ℕ → Renewal → Input → List Message
+answers_renewal i lease j r I = RenewalAnswer i j (renewed lease j r I) ∷ []
+
+abbrev pub after_renewal : ℕ → ℕ → Renewal → Input → Input
+after_renewal lease j r I = record I {
+  objects =
+      if asks_object r.parts
+      then slice_set I.objects r.object (record (held I r.object) { given = (held I r.object).version })
+      else I.objects;
+  ledgers =
+      if grants r.parts j I
+      then slice_set I.ledgers j (record (ledger I j) { until = record { 0 = I.clock.0 + lease } })
+      else I.ledgers;
 }
 
 -- ---- invalidation answer
 
 -- raise what j acknowledged, and free the record that this covers
 abbrev pub acknowledges : ℕ → Pair → Input → Input
-acknowledges j x I = record {
-  clock = I.clock;
-  lc = I.lc;
-  objects = I.objects;
-  ledgers = set I.ledgers j (record {
-    acked = slice_set (ledger I j).acked x.object (raised (slice_index_or (ledger I j).acked x.object none) x.version);
-    epoch = (ledger I j).epoch;
-    until = (ledger I j).until;
-  });
-  waiting = set I.waiting j
-      (freed x.object (raised (slice_index_or (ledger I j).acked x.object none) x.version) (chain I j));
-}
+acknowledges j x I =
+    let acked : Version = raised (slice_index_or (ledger I j).acked x.object none) x.version in
+    record I {
+      ledgers = slice_set I.ledgers j (record (ledger I j) { acked = slice_set (ledger I j).acked x.object acked });
+      waiting = slice_set I.waiting j (freed x.object acked (chain I j));
+    }
 
 unfoldable pub acknowledges_all : ℕ → List Pair → Input → Input
 acknowledges_all j [] I = I
@@ -202,10 +199,4 @@ first_input clock = record {
 }
 
 abbrev pub later_input : ℕ → Input → Input
-later_input increment I = record {
-  clock = record { 0 = I.clock.0 + increment };
-  lc = I.lc;
-  objects = I.objects;
-  ledgers = I.ledgers;
-  waiting = I.waiting;
-}
+later_input increment I = record I { clock = record { 0 = I.clock.0 + increment } }

@@ -1,5 +1,6 @@
 pub mod Answers
 pub mod Calls
+pub mod Counts
 pub mod Input
 pub mod Lists
 pub mod Operation
@@ -10,3 +11,4 @@ pub mod Renewals
 pub mod Said
 pub mod State
 pub mod Steps
+pub mod Widest

@@ -1,5 +1,5 @@
 -- An output server: what it keeps, when it may answer a read, and what it does with each kind of message.
-use Rattle.std.specs.Prelude.{ℕ, ◌+◌, Bool, cond, not, ◌&&◌, List, [], ◌∷◌, length, get_or, replicate, ◌==◌, nat_le, nat_lt, slice_index_or, slice_set}
+use Rattle.std.specs.Prelude.{ℕ, ◌+◌, Bool, if◌then◌else◌, not, ◌&&◌, List, [], ◌∷◌, replicate, ◌==◌, nat_le, nat_lt, slice_index_or, slice_set}
 use Rattle.quorum.specs.Sets.{set_of, all_below}
 use Rattle.quorum.specs.Systems.{System}
 use Rattle.numbers.specs.declared.epoch.Epoch.{Epoch}
@@ -8,12 +8,13 @@ use Rattle.rules.specs.declared.kept.Link.{Link}
 use Rattle.rules.specs.declared.kept.Newest.{Newest}
 use Rattle.rules.specs.declared.message.Message.{Message}
 use Rattle.rules.specs.declared.message.Message.TheVariants.{ReadAnswer, RenewalRequest, InvalidationAnswer}
-use Rattle.rules.specs.declared.parts.Parts.{Parts}
+use Rattle.rules.specs.declared.renewal.Renewal.{Renewal}
+use Rattle.rules.specs.declared.renewal.Renewed.{Renewed}
 use Rattle.rules.specs.declared.pairs.Pair.{Pair}
 use Rattle.rules.specs.declared.pairs.Pairs.{Pairs}
 use Rattle.numbers.specs.declared.time.Time.{Time}
 use Rattle.numbers.specs.declared.version.Version.{Version}
-use Rattle.rules.specs.Lists.{pairs, each}
+use Rattle.rules.specs.Lists.{list_of, pairs, each}
 use Rattle.numbers.specs.Numbers.{none, raised, later, longer, live, lease_end}
 use Rattle.rules.specs.Renewals.{asks_object, asks_volume, parts_of}
 
@@ -68,83 +69,86 @@ valid inputs n o O = covers O o n && inputs.reads (set_of n (good O o))
 
 -- ---- read request
 
--- a renewal request to input server i, unless it is good: for the copy if it is not sound, for a lease if none is live
-abbrev pub renewal : ℕ → ℕ → Output → ℕ → List Message
-renewal j o O i = cond (good O o i) []
-    (RenewalRequest j i (parts_of (not (sound O o i)) (not (leased O i))) o O.clock ∷ [])
+-- what is asked of input server i: the object if the copy is not sound, a lease if none is live
+abbrev pub asked : ℕ → Output → ℕ → Renewal
+asked o O i = record { parts = parts_of (not (sound O o i)) (not (leased O i)); object = o; stamp = O.clock }
 
--- the same for each input server below n
-abbrev pub renewals : ℕ → ℕ → ℕ → Output → List Message
-renewals j n o O = each n (renewal j o O)
+-- a renewal request to input server i, unless it is good
+abbrev pub asks : ℕ → ℕ → Output → ℕ → List Message
+asks j o O i = if good O o i then [] else RenewalRequest j i (asked o O i) ∷ []
+
+-- the same to each input server below n
+abbrev pub asks_all : ℕ → ℕ → ℕ → Output → List Message
+asks_all j n o O = each n (asks j o O)
 
 abbrev pub answers_read : System → ℕ → ℕ → ℕ → ℕ → Output → List Message
-answers_read inputs j p n o O = cond (valid inputs n o O)
-    (ReadAnswer j p (newest_of O o).version (newest_of O o).value ∷ [])
-    (renewals j n o O)
+answers_read inputs j p n o O =
+    if valid inputs n o O
+    then ReadAnswer j p (newest_of O o).version (newest_of O o).value ∷ []
+    else asks_all j n o O
 
 -- ---- what an input server tells
 
 abbrev pub with_copy : ℕ → Copied → Link → Link
-with_copy o c l = record { copies = slice_set l.copies o c; epoch = l.epoch; until = l.until }
+with_copy o c l = record l { copies = slice_set l.copies o c }
 
 -- raise known
 abbrev pub hears : Pair → Link → Link
-hears x l = with_copy x.object
-    (record {
-      got = (copy_of l x.object).got;
-      known = raised (copy_of l x.object).known x.version;
-      epoch = (copy_of l x.object).epoch;
-    })
-    l
+hears x l =
+    let c : Copied = copy_of l x.object in
+    with_copy x.object (record c { known = raised c.known x.version }) l
 
 unfoldable pub hears_all : List Pair → Link → Link
 hears_all [] l = l
 hears_all (x ∷ xs) l = hears_all xs (hears x l)
 
 -- an object part is accepted if nothing newer is known
-abbrev pub accepts : Parts → ℕ → Version → Link → Bool
-accepts a o v l = asks_object a && nat_le (copy_of l o).known.0 v.0
+abbrev pub accepts : Renewed → Link → Bool
+accepts y l = asks_object y.renewal.parts && nat_le (copy_of l y.renewal.object).known.0 y.version.0
 
-abbrev pub takes_copy : Parts → ℕ → Version → Epoch → Link → Link
-takes_copy a o v e l = cond (accepts a o v l)
-    (with_copy o (record { got = v; known = v; epoch = later (copy_of l o).epoch e }) l)
-    l
+abbrev pub takes_copy : Renewed → Link → Link
+takes_copy y l =
+    let o : ℕ = y.renewal.object in
+    if accepts y l
+    then with_copy o (record { got = y.version; known = y.version; epoch = later (copy_of l o).epoch y.epoch }) l
+    else l
 
-abbrev pub takes_lease : Parts → Epoch → Time → ℕ → ℕ → Link → Link
-takes_lease a e stamp length drift l = cond (asks_volume a)
-    (record {
-      copies = l.copies;
-      epoch = later l.epoch e;
-      until = cond (nat_lt 0 length) (longer l.until (lease_end stamp.0 length drift)) l.until;
-    })
-    l
+abbrev pub takes_lease : ℕ → Renewed → Link → Link
+takes_lease drift y l =
+    if asks_volume y.renewal.parts
+    then record l {
+      epoch = later l.epoch y.epoch;
+      until = if nat_lt 0 y.length then longer l.until (lease_end y.renewal.stamp.0 y.length drift) else l.until;
+    }
+    else l
 
-abbrev pub takes_newest : Bool → ℕ → Version → ℕ → List Newest → List Newest
-takes_newest accepted o v x ns = cond (accepted && nat_lt (get_or ns o no_newest).version.0 v.0)
-    (slice_set ns o (record { version = v; value = x }))
-    ns
+-- a copy that was accepted is the newest, if its version is above the newest
+abbrev pub takes_newest : Bool → Renewed → List Newest → List Newest
+takes_newest accepted y ns =
+    let o : ℕ = y.renewal.object in
+    if accepted && nat_lt (slice_index_or ns o no_newest).version.0 y.version.0
+    then slice_set ns o (record { version = y.version; value = y.value })
+    else ns
 
 -- ---- renewal answer from input server i
 
-unfoldable pub after_answer : ℕ → ℕ → Parts → ℕ → Version → ℕ → Epoch → Time → ℕ → List Pair → Output → Output
-after_answer drift i a o v x e stamp length ps O = record {
-  clock = O.clock;
-  newest = takes_newest (accepts a o v (hears_all ps (link O i))) o v x O.newest;
-  links = slice_set O.links i (takes_lease a e stamp length drift (takes_copy a o v e (hears_all ps (link O i))));
-}
+unfoldable pub after_answer : ℕ → ℕ → Renewed → Output → Output
+after_answer drift i y O =
+    let heard : Link = hears_all (list_of y.list) (link O i) in
+    record O {
+      newest = takes_newest (accepts y heard) y O.newest;
+      links = slice_set O.links i (takes_lease drift y (takes_copy y heard));
+    }
 
 -- the same list, unless it is empty
 abbrev pub acknowledgement : ℕ → ℕ → Pairs → List Message
-acknowledgement j i l = cond (l.count == 0) [] (InvalidationAnswer j i l ∷ [])
+acknowledgement j i l = if l.count == 0 then [] else InvalidationAnswer j i l ∷ []
 
 -- ---- invalidation from input server i
 
 unfoldable pub after_invalidation : ℕ → ℕ → Version → Output → Output
-after_invalidation i o v O = record {
-  clock = O.clock;
-  newest = O.newest;
-  links = slice_set O.links i (hears (record { object = o; version = v }) (link O i));
-}
+after_invalidation i o v O =
+    record O { links = slice_set O.links i (hears (record { object = o; version = v }) (link O i)) }
 
 abbrev pub answers_invalidation : ℕ → ℕ → ℕ → Version → List Message
 answers_invalidation j i o v = InvalidationAnswer j i (pairs (record { object = o; version = v } ∷ [])) ∷ []
@@ -159,4 +163,4 @@ first_output clock = record {
 }
 
 abbrev pub later_output : ℕ → Output → Output
-later_output increment O = record { clock = record { 0 = O.clock.0 + increment }; newest = O.newest; links = O.links }
+later_output increment O = record O { clock = record { 0 = O.clock.0 + increment } }

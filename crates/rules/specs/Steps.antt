@@ -1,6 +1,6 @@
 -- What a step of one server leaves: the server, the log, and how many messages are made then. A step that refuses
 -- leaves server and log as they were.
-use Rattle.std.specs.Prelude.{◌≡◌, ℕ, ◌+◌, Bool, cond, List, length, Ok, Err, Result, nat_le}
+use Rattle.std.specs.Prelude.{◌≡◌, ℕ, ◌+◌, Bool, if◌then◌else◌, List, length, Ok, Err, Result, nat_le}
 use Rattle.std.proofs.lemmas.List.Edits.{sets}
 use Rattle.quorum.specs.declared.refusal.Refusal.{Refusal}
 use Rattle.quorum.specs.Refusals.{number_of}
@@ -38,7 +38,7 @@ abbrev pub has_room : ℕ → List Message → Bool
 has_room made log = nat_le (made + 9) (length log)
 
 abbrev pub with_room : {A : Type 0} → A → ℕ → List Message → Step A → Step A
-with_room a made log x = cond (has_room made log) x (stays 32 a log)
+with_room a made log x = if has_room made log then x else stays 32 a log
 
 -- ---- a log that is lent
 

@@ -1,13 +1,13 @@
 ghost use Rattle.std.specs.Prelude.{◌≡◌};
 
 use crate::pairs::Pairs;
-use crate::parts::Parts;
-use numbers::{Epoch, Time, Version};
+use crate::renewal::{Renewal, Renewed};
+use numbers::Version;
 use quorum::MemberSet;
 
 // A message between an operation and a server, or between two servers. A log lies with the caller
 // and may hold any numbers; delivering tests those that it uses.
-#[derive(Debug, PartialEq, Eq, Drop)]
+#[derive(Clone, Copy, Debug, PartialEq, Eq)]
 pub enum Message {
     ClockQuestion {
         operation: u16,
@@ -44,22 +44,12 @@ pub enum Message {
     RenewalRequest {
         output: u8,
         input: u8,
-        parts: Parts,
-        object: u8,
-        stamp: Time,
+        renewal: Renewal,
     },
-    // flat: the rules speak of a message by its numbers, and each rule would have to go through a struct
     RenewalAnswer {
         input: u8,
         output: u8,
-        parts: Parts,
-        object: u8,
-        version: Version,
-        value: u64,
-        epoch: Epoch,
-        stamp: Time,
-        length: u32,
-        list: Pairs,
+        renewed: Renewed,
     },
     Invalidation {
         input: u8,

@@ -12,8 +12,8 @@ sender_text (WriteRequest p i o v x) = write_name p
 sender_text (WriteAnswer i p s) = input_name i
 sender_text (ReadRequest p j o) = read_name p
 sender_text (ReadAnswer j p v x) = output_name j
-sender_text (RenewalRequest j i a o stamp) = output_name j
-sender_text (RenewalAnswer i j a o v x e stamp length l) = input_name i
+sender_text (RenewalRequest j i r) = output_name j
+sender_text (RenewalAnswer i j y) = input_name i
 sender_text (Invalidation i j o v) = input_name i
 sender_text (InvalidationAnswer j i l) = output_name j
 
@@ -24,8 +24,8 @@ verb_text (WriteRequest p i o v x) = codes "asks"
 verb_text (WriteAnswer i p s) = codes "answers"
 verb_text (ReadRequest p j o) = codes "asks"
 verb_text (ReadAnswer j p v x) = codes "answers"
-verb_text (RenewalRequest j i a o stamp) = codes "asks"
-verb_text (RenewalAnswer i j a o v x e stamp length l) = codes "answers"
+verb_text (RenewalRequest j i r) = codes "asks"
+verb_text (RenewalAnswer i j y) = codes "answers"
 verb_text (Invalidation i j o v) = codes "tells"
 verb_text (InvalidationAnswer j i l) = codes "tells"
 
@@ -36,8 +36,8 @@ receiver_text (WriteRequest p i o v x) = input_name i
 receiver_text (WriteAnswer i p s) = write_name p
 receiver_text (ReadRequest p j o) = output_name j
 receiver_text (ReadAnswer j p v x) = read_name p
-receiver_text (RenewalRequest j i a o stamp) = input_name i
-receiver_text (RenewalAnswer i j a o v x e stamp length l) = output_name j
+receiver_text (RenewalRequest j i r) = input_name i
+receiver_text (RenewalAnswer i j y) = output_name j
 receiver_text (Invalidation i j o v) = output_name j
 receiver_text (InvalidationAnswer j i l) = input_name i
 
@@ -48,8 +48,8 @@ content_text (WriteRequest p i o v x) = codes " to hold " ++ version_text (recor
 content_text (WriteAnswer i p s) = codes " and names as shut out: " ++ set_text s.0
 content_text (ReadRequest p j o) = codes " for object " ++ decimal o
 content_text (ReadAnswer j p v x) = codes ": version " ++ decimal v.0 ++ codes ", value " ++ decimal x
-content_text (RenewalRequest j i a o stamp) = codes " for " ++ wanted_text a o ++ codes ", stamped " ++ decimal stamp.0
-content_text (RenewalAnswer i j a o v x e stamp length l) = codes ": " ++ brought_text a (record { object = o; version = v }) x e stamp length l
+content_text (RenewalRequest j i r) = codes " for " ++ wanted_text r ++ codes ", stamped " ++ decimal r.stamp.0
+content_text (RenewalAnswer i j y) = codes ": " ++ brought_text y
 content_text (Invalidation i j o v) = codes " of " ++ version_text (record { object = o; version = v })
 content_text (InvalidationAnswer j i l) = codes " that it knows " ++ versions_text l
 

@@ -33,37 +33,12 @@ impl<'a> fmt::Display for Content<'a> {
             Message::ReadAnswer { version, value, .. } => {
                 write!(f, ": version {version}, value {value}")
             }
-            Message::RenewalRequest {
-                parts,
-                object,
-                stamp,
-                ..
-            } => {
-                let wanted = Wanted { parts, object };
+            Message::RenewalRequest { renewal, .. } => {
+                let wanted = Wanted(renewal);
+                let stamp = renewal.stamp;
                 write!(f, " for {wanted}, stamped {stamp}")
             }
-            Message::RenewalAnswer {
-                parts,
-                object,
-                version,
-                value,
-                epoch,
-                stamp,
-                length,
-                list,
-                ..
-            } => {
-                let brought = Brought {
-                    parts,
-                    copy: Pair { object, version },
-                    value,
-                    epoch,
-                    stamp,
-                    length,
-                    list,
-                };
-                write!(f, ": {brought}")
-            }
+            Message::RenewalAnswer { renewed, .. } => write!(f, ": {}", Brought(renewed)),
             Message::Invalidation {
                 object,
                 version,

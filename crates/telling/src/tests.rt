@@ -3,7 +3,7 @@ use crate::end::ToldEnd;
 use crate::told::Told;
 use numbers::{Epoch, Time, Version};
 use quorum::MemberSet;
-use rules::{Delivery, Message, Pair, Pairs, Parts};
+use rules::{Delivery, Message, Pair, Pairs, Parts, Renewal, Renewed};
 use std::test::Fail;
 
 const VERSION: Version = Version(131_073);
@@ -112,9 +112,11 @@ fn request(parts: Parts) -> Message {
     Message::RenewalRequest {
         output: 7,
         input: 1,
-        parts,
-        object: 3,
-        stamp: Time(500),
+        renewal: Renewal {
+            parts,
+            object: 3,
+            stamp: Time(500),
+        },
     }
 }
 
@@ -122,14 +124,18 @@ fn answer(parts: Parts, list: Pairs) -> Message {
     Message::RenewalAnswer {
         input: 1,
         output: 7,
-        parts,
-        object: 3,
-        version: VERSION,
-        value: 7,
-        epoch: Epoch::FIRST,
-        stamp: Time(500),
-        length: 1_000,
-        list,
+        renewed: Renewed {
+            renewal: Renewal {
+                parts,
+                object: 3,
+                stamp: Time(500),
+            },
+            version: VERSION,
+            value: 7,
+            epoch: Epoch::FIRST,
+            length: 1_000,
+            list,
+        },
     }
 }
 

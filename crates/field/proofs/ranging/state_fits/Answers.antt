@@ -1,5 +1,5 @@
 use Rattle.std.proofs.Common.{ap, ◌∙◌}
-use Rattle.operation.specs.Counts.{counts_of}
+use Rattle.rules.specs.Counts.{counts_of}
 use Rattle.rules.specs.Ranges.{state_fits}
 use Rattle.field.proofs.Places.{place_read}
 use Rattle.field.proofs.ranging.state_fits.Goals as goal

@@ -15,6 +15,6 @@ log_all-requires g c =
 pub returns-clause-does : goal.returns-clause-does
 returns-clause-does g c =
     read_begun (g.I.QuorumSystem.meaning c.args.systems.now.inputs) (g.O.QuorumSystem.meaning c.args.systems.now.outputs) c.args.object
-    c.enter.new.self.output_count.number (state_of c.args.self.now c.args.log.now c.args.table.now)
+    c.enter.new.self.counts.outputs.number (state_of c.args.self.now c.args.log.now c.args.table.now)
     (state_of c.enter.new.self c.args.log.now c.enter.new.table) _ _
     c.in_ok-check_beginning.ensures (c.enter.ensures c.args.log.now) (ap reading c.new-read.ensures) refl (c.log_all.ensures c.enter.new.table)

@@ -1,18 +1,15 @@
-use Rattle.std.proofs.Common.{sym, ◌∙◌}
 use Rattle.field.specs.Views.{state_of}
 use Rattle.field.proofs.Calling.{delivery_done, delivery_passed, deliverable}
 use Rattle.field.proofs.interior.Interior.deliver.Goals as goal
 
-pub receive-requires : goal.receive-requires
-receive-requires g c =
+pub hand_over-requires : goal.hand_over-requires
+hand_over-requires g c =
     let i = g.I.QuorumSystem.meaning c.args.systems.now.inputs in
     let o = g.O.QuorumSystem.meaning c.args.systems.now.outputs in
     deliverable i o c.args.self.now c.args.log.now c.args.table.now c.args.number
     (delivery_passed i o c.args.self.now c.args.log.now c.args.table.now c.args.number c.requires c.in_ok-check_message.ensures)
-    (sym c.if-not-is_in_range.false ∙ c.is_in_range.ensures c.args.log.now)
 
 pub returns-clause-does : goal.returns-clause-does
 returns-clause-does g c =
     delivery_done (g.I.QuorumSystem.meaning c.args.systems.now.inputs) (g.O.QuorumSystem.meaning c.args.systems.now.outputs) c.args.number
-    (state_of c.args.self.now c.args.log.now c.args.table.now) _ c.in_ok-check_message.ensures
-    (sym c.if-not-is_in_range.false ∙ c.is_in_range.ensures c.args.log.now) c.receive.ensures
+    (state_of c.args.self.now c.args.log.now c.args.table.now) _ c.in_ok-check_message.ensures c.hand_over.ensures.does

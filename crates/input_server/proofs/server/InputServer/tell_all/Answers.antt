@@ -1,9 +1,8 @@
 use Rattle.std.proofs.Common.{ℕ, arith, subst}
 use Rattle.rules.proofs.Logging.{logs_more, logs_length, logs_none}
 use Rattle.rules.proofs.Rising.{at_end}
-use Rattle.rules.specs.Input.{invalidations}
+use Rattle.rules.specs.Input.{invalidation, invalidations}
 use Rattle.rules.specs.Steps.{Logs}
-use Rattle.input_server.specs.Telling.{invalidation}
 use Rattle.input_server.specs.Views.{input_of}
 use Rattle.input_server.proofs.StepsTaken.{telling_one}
 use Rattle.input_server.proofs.server.InputServer.tell_all.Goals as goal

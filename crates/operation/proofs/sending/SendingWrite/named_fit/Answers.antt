@@ -10,5 +10,5 @@ pub returns : goal.returns
 unfolding named_fit
 returns c =
     let test : ℕ → Bool =
-    λ i. cond (ltb i c.args.counts.inputs) (ltb (named_by c.args.self.now.named i) (2 ^ c.args.counts.outputs)) (eqb (named_by c.args.self.now.named i) 0) in
+    λ i. cond (ltb i c.args.counts.inputs.number) (ltb (named_by c.args.self.now.named i) (2 ^ c.args.counts.outputs.number)) (eqb (named_by c.args.self.now.named i) 0) in
     all_from_yields_List test _ _ _ c.all.ensures.ran (YieldsList-from_range 0 8 8 refl refl) (λ x b q k. search rules) ∙ all_by_chain 8 test

@@ -1,10 +1,10 @@
 use Rattle.std.proofs.Common.{ℕ, arith, subst}
 use Rattle.rules.proofs.Logging.{logs_more, logs_length, logs_none}
 use Rattle.rules.proofs.Rising.{at_end}
-use Rattle.rules.specs.Output.{renewal, renewals}
+use Rattle.rules.specs.Output.{asks, asks_all}
 use Rattle.rules.specs.Steps.{Logs}
 use Rattle.output_server.specs.Views.{output_of}
-use Rattle.output_server.proofs.Renewing.{renewal_one}
+use Rattle.output_server.proofs.Renewing.{asks_one}
 use Rattle.output_server.proofs.server.OutputServer.ask_renewals.Goals as goal
 
 pub loop-input-init : goal.loop-input-init
@@ -19,11 +19,11 @@ ask_renewal-requires c =
 
 pub loop-input-preserved : goal.loop-input-preserved
 loop-input-preserved c =
-    let asked = renewal c.args.me.number c.args.object.number (output_of c.args.self.now) in (
+    let asked = asks c.args.me.number c.args.object.number (output_of c.args.self.now) in (
       logs_more asked c.loop-input.input _ _ _ c.loop-input.invariant.0 c.ask_renewal.ensures,
       omega (
         arith,
-        renewal_one c.args.me.number c.args.object.number (output_of c.args.self.now) c.loop-input.input,
+        asks_one c.args.me.number c.args.object.number (output_of c.args.self.now) c.loop-input.input,
         c.ask_renewal.ensures.made,
         c.loop-input.invariant.1,
       ),
@@ -32,6 +32,6 @@ loop-input-preserved c =
 
 pub returns : goal.returns
 returns c =
-    subst (λ (n : ℕ). Logs c.args.log.now c.loop-input.log (renewals c.args.me.number n c.args.object.number (output_of c.args.self.now)))
+    subst (λ (n : ℕ). Logs c.args.log.now c.loop-input.log (asks_all c.args.me.number n c.args.object.number (output_of c.args.self.now)))
     (at_end c.loop-input.input c.get-input-end.result c.args.count.number c.loop-input-test.false c.loop-input.invariant.2 c.get-input-end.ensures.is)
     c.loop-input.invariant.0
