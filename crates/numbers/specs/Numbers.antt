@@ -1,5 +1,5 @@
 -- Versions, epochs and times, and the ranges of the subject's numbers.
-use Rattle.std.specs.Prelude.{ℕ, ◌+◌, ◌-◌, ◌*◌, ◌/◌, ◌^◌, Bool, cond, ◌&&◌, Some, None, Option, ◌==◌, nat_le, nat_lt}
+use Rattle.std.specs.Prelude.{ℕ, ◌+◌, ◌-◌, ◌*◌, ◌/◌, ◌^◌, Bool, if◌then◌else◌, ◌&&◌, Some, None, Option, ◌==◌, nat_le, nat_lt}
 use Rattle.numbers.specs.declared.epoch.Epoch.{Epoch}
 use Rattle.numbers.specs.declared.time.Time.{Time}
 use Rattle.numbers.specs.declared.version.Version.{Version}
@@ -30,6 +30,10 @@ longest = 1000000000
 abbrev pub last_operation : ℕ
 last_operation = 1024
 
+-- the highest drift, in thousandths
+abbrev pub highest_drift : ℕ
+highest_drift = 999
+
 -- ---- versions
 
 abbrev pub none : Version
@@ -49,10 +53,10 @@ clock_of v = v.0 / 65536
 
 -- a write's version has the highest clock that it found, plus 1
 abbrev pub next_version : ℕ → ℕ → Option Version
-next_version highest operation = cond (highest == 65535) None (Some (version_of (highest + 1) operation))
+next_version highest operation = if highest == 65535 then None else Some (version_of (highest + 1) operation)
 
 abbrev pub raised : Version → Version → Version
-raised v to = cond (nat_lt v.0 to.0) to v
+raised v to = if nat_lt v.0 to.0 then to else v
 
 -- ---- epochs and times
 
@@ -64,10 +68,10 @@ abbrev pub is_epoch : Epoch → Bool
 is_epoch e = between 1 last_epoch e.0
 
 abbrev pub later : Epoch → Epoch → Epoch
-later e to = cond (nat_lt e.0 to.0) to e
+later e to = if nat_lt e.0 to.0 then to else e
 
 abbrev pub longer : Time → Time → Time
-longer t to = cond (nat_lt t.0 to.0) to t
+longer t to = if nat_lt t.0 to.0 then to else t
 
 -- a lease with that end is live at that time of the same clock
 abbrev pub live : Time → Time → Bool

@@ -1,5 +1,5 @@
 -- What a chain of iterators over the numbers below n gives, as the definitions over these numbers have it.
-use Rattle.std.specs.Prelude.{◌≡◌, ℕ, zero, suc, ◌+◌, ◌^◌, ◌<◌, ◌≤◌, Bool, true, false, cond, ◌&&◌, List, [], ◌∷◌, ◌++◌, bit_or, filter, fold, refl}
+use Rattle.std.specs.Prelude.{◌≡◌, ℕ, zero, suc, ◌+◌, ◌^◌, ◌<◌, ◌≤◌, Bool, true, false, if◌then◌else◌, ◌&&◌, List, [], ◌∷◌, ◌++◌, bit_or, filter, fold, refl}
 use Rattle.std.proofs.Common.{ap, ◌∙◌, arith, lt-ltb}
 use Rattle.std.specs.List.{list_all, range_with_len}
 use Rattle.std.proofs.lemmas.List.Elements.{filter-append}
@@ -31,8 +31,8 @@ abbrev pub with_member : MemberSet → ℕ → MemberSet
 with_member s i = record { 0 = joined s.0 i }
 
 join_last : (n s : ℕ) (b : Bool) → n < 64
-    → fold with_member (record { 0 = s }) (cond b (n ∷ []) []) ≡ record { 0 = cond b (bit_or s (2 ^ n)) s }
-join_last n s true l = ap (λ (c : Bool). record { 0 = cond c (bit_or s (2 ^ n)) s }) (lt-ltb n 64 l)
+    → fold with_member (record { 0 = s }) (if b then n ∷ [] else []) ≡ record { 0 = if b then bit_or s (2 ^ n) else s }
+join_last n s true l = ap (λ (c : Bool). record { 0 = if c then bit_or s (2 ^ n) else s }) (lt-ltb n 64 l)
 join_last n s false l = refl
 
 -- the members that pass, gathered one by one

@@ -1,5 +1,5 @@
 -- Sets of members as numbers: binary place i stands for member i.
-use Rattle.std.specs.Prelude.{◌≡◌, ℕ, zero, suc, ◌-◌, ◌/◌, ◌%◌, ◌^◌, Bool, true, cond, ◌&&◌, ◌==◌, bit_or, nat_lt}
+use Rattle.std.specs.Prelude.{◌≡◌, ℕ, zero, suc, ◌-◌, ◌/◌, ◌%◌, ◌^◌, Bool, true, if◌then◌else◌, ◌&&◌, ◌==◌, bit_or, nat_lt}
 
 -- member i is in the set s
 abbrev pub has : ℕ → ℕ → Bool
@@ -15,12 +15,12 @@ full n = 2 ^ n - 1
 
 -- the set s with the member i; a set has places for the numbers below 64 alone
 abbrev pub joined : ℕ → ℕ → ℕ
-joined s i = cond (nat_lt i 64) (bit_or s (2 ^ i)) s
+joined s i = if nat_lt i 64 then bit_or s (2 ^ i) else s
 
 -- the numbers below n that pass a test
 abbrev pub set_of : ℕ → (ℕ → Bool) → ℕ
 set_of zero test = 0
-set_of (suc n) test = cond (test n) (bit_or (set_of n test) (2 ^ n)) (set_of n test)
+set_of (suc n) test = if test n then bit_or (set_of n test) (2 ^ n) else set_of n test
 
 -- every number below n passes a test
 abbrev pub all_below : ℕ → (ℕ → Bool) → Bool

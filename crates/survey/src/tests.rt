@@ -1,9 +1,9 @@
 // Answers that the layouts of the program do not ask for.
-ghost use Rattle.std.specs.Prelude.{◌^◌, ◌&&◌, nat_lt};
+ghost use Rattle.std.specs.Prelude.{◌^◌, nat_lt};
 ghost use Rattle.quorum.specs.Sets.{has};
 ghost use Rattle.std.proofs.Common.{arith};
 ghost use Rattle.std.proofs.lemmas.Bool.{and_parts};
-ghost use Rattle.survey.specs.PrimarySystemLemmas.{family};
+ghost use Rattle.survey.specs.PrimarySystemLemmas.{with_one, family};
 
 use crate::losses::{Family, Finds, finds_after, smallest_set};
 use quorum::{Majority, MemberSet, QuorumSystem, Refusal};
@@ -13,7 +13,7 @@ use std::test::Fail;
 struct Primary;
 
 impl QuorumSystem for Primary {
-    ghost meaning = { λ _. record { count = 3; reads = λ s. nat_lt s (2 ^ 3) && has s 1; writes = λ s. nat_lt s (2 ^ 3) && has s 1 } };
+    ghost meaning = { λ _. record { count = 3; reads = with_one; writes = with_one } };
 
     ghost lawful = { λ q.
         record {
@@ -22,7 +22,9 @@ impl QuorumSystem for Primary {
           read_family = family;
           write_family = family;
           meet = λ s t es et.
-              (1, omega arith, (and_parts (nat_lt s (2 ^ 3)) (has s 1) es).1, (and_parts (nat_lt t (2 ^ 3)) (has t 1) et).1);
+              let reads = and_parts (nat_lt s (2 ^ 3)) (has s 1) es in
+              let writes = and_parts (nat_lt t (2 ^ 3)) (has t 1) et in
+              (1, omega arith, reads.1, writes.1);
         } };
 
     fn count(&self) -> u8 {
