@@ -2,7 +2,7 @@
 // Each `impl` is written out, since one that a macro of ours writes is refused.
 use crate::numbering::{Kind, Number};
 
-// Input servers: 0 to 7.
+/// Input servers: 0 to 7.
 pub enum Input {}
 
 impl Kind for Input {
@@ -11,7 +11,7 @@ impl Kind for Input {
     const LIMIT: u8 = 8;
 }
 
-// Output servers: 0 to 7.
+/// Output servers: 0 to 7.
 pub enum Output {}
 
 impl Kind for Output {
@@ -20,7 +20,7 @@ impl Kind for Output {
     const LIMIT: u8 = 8;
 }
 
-// Objects: 0 to 15.
+/// Objects: 0 to 15.
 pub enum Object {}
 
 impl Kind for Object {
@@ -29,7 +29,7 @@ impl Kind for Object {
     const LIMIT: u8 = 16;
 }
 
-// How many servers there are on one side: 0 to 8.
+/// How many servers there are on one side: 0 to 8.
 pub enum Servers {}
 
 impl Kind for Servers {
@@ -38,7 +38,7 @@ impl Kind for Servers {
     const LIMIT: u8 = 9;
 }
 
-// How many objects there are: 0 to 16.
+/// How many objects there are: 0 to 16.
 pub enum Objects {}
 
 impl Kind for Objects {
@@ -47,12 +47,17 @@ impl Kind for Objects {
     const LIMIT: u8 = 17;
 }
 
+/// The number of an input server.
 pub type InputNumber = Number<Input>;
 
+/// The number of an output server.
 pub type OutputNumber = Number<Output>;
 
+/// The number of an object.
 pub type ObjectNumber = Number<Object>;
 
+/// How many servers one side has.
 pub type ServerCount = Number<Servers>;
 
+/// How many objects there are.
 pub type ObjectCount = Number<Objects>;

@@ -1,5 +1,5 @@
-// The numbers of the subject, each a type of its own: versions, epochs and times, which are never
-// mixed, and numbers that were checked once and carry their range.
+//! The numbers of the subject, each a type of its own: versions, epochs and times, which are never
+//! mixed, and numbers that were checked once and carry their range.
 #![tactic(auto)]
 
 mod epoch;

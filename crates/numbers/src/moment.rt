@@ -1,36 +1,38 @@
-ghost use Rattle.std.specs.Prelude.{◌≡◌, ◌+◌, ◌^◌, ◌≤◌, nat_le};
-ghost use Rattle.numbers.specs.Numbers.{lease_end, keeps_pair};
+ghost use Rattle.std.specs.Prelude.{◌≡◌, ◌+◌, ◌≤◌, nat_le};
+ghost use Rattle.numbers.specs.Numbers.{last_time, longest, highest_drift, lease_end, keeps_pair};
 ghost use Rattle.numbers.specs.Checked.{Checked, Added};
 
 use crate::out_of_range::OutOfRange;
 use crate::time::Time;
 
-// A time that a clock can show: 0 to 2^40.
+/// A time that a clock can show, in microseconds: 0 to 2^40.
 #[derive(Clone, Copy, Debug, PartialEq, Eq)]
 pub struct Moment {
     micros: u64,
-    ghost shown: { micros ≤ 2 ^ 40 },
+    ghost shown: { micros ≤ last_time },
 }
 
-// How long a lease lasts, in microseconds: 0 to 1,000,000,000.
+/// How long a lease lasts, in microseconds: 0 to 1,000,000,000.
 #[derive(Clone, Copy, Debug, PartialEq, Eq)]
 pub struct LeaseLength {
     micros: u32,
-    ghost short: { micros ≤ 1000000000 },
+    ghost short: { micros ≤ longest },
 }
 
-// The most by which two clocks may disagree about how much time has passed, in thousandths.
+/// The most by which two clocks may disagree about how much time has passed, in thousandths: 0 to
+/// 999.
 // Moment, length and drift are of three widths: a generic would want a trait of widths besides.
 #[derive(Clone, Copy, Debug, PartialEq, Eq)]
 pub struct Drift {
     thousandths: u16,
-    ghost small: { thousandths ≤ 999 },
+    ghost small: { thousandths ≤ highest_drift },
 }
 
+/// Refused is any time above 2^40.
 impl TryFrom<Time> for Moment {
     type Error = OutOfRange;
 
-    ghost try_from_gives = { λ t r. Checked (λ m. m.micros) (nat_le t.0 (2 ^ 40)) t.0 r };
+    ghost try_from_gives = { λ t r. Checked (λ m. m.micros) (nat_le t.0 last_time) t.0 r };
 
     fn try_from(time: Time) -> Result<Moment, OutOfRange> {
         if time.is_shown() {
@@ -41,6 +43,7 @@ impl TryFrom<Time> for Moment {
     }
 }
 
+/// The same time, with its range forgotten.
 impl From<Moment> for Time {
     ghost from_gives = { λ m t. t.0 ≡ m.micros };
 
@@ -50,12 +53,13 @@ impl From<Moment> for Time {
 }
 
 impl Moment {
-    // When clocks begin that are set to nothing else.
+    /// When clocks begin that are set to nothing else.
     pub const ZERO: Moment = Moment { micros: 0 };
 
-    // So much later, unless the clock cannot show it.
+    /// So many microseconds later. None if that is above 2^40, which no clock can show.
     pub fn later(self, increment: u64) -> Option<Moment>
-        ensures { Added (λ m. m.micros) (nat_le (self.micros + increment) (2 ^ 40)) (self.micros + increment) result }
+        ensures { let after = self.micros + increment in
+            Added (λ m. m.micros) (nat_le after last_time) after result }
     {
         if increment > Time::LAST.0 - self.micros {
             return None;
@@ -65,15 +69,17 @@ impl Moment {
         })
     }
 
-    // When a lease ends that is granted at this moment, on the clock of the server that grants it.
+    /// When a lease ends that is granted at this moment, on the clock of the server that grants it.
+    /// It may be a time that no clock can show.
     pub fn plus(self, length: LeaseLength) -> Time
         ensures { result.0 ≡ self.micros + length.micros }
     {
         Time(self.micros + length.micros as u64)
     }
 
-    // When a lease ends that was asked for at this moment: the slowest clock that the drift
-    // allows has then counted the whole length.
+    /// When a lease ends that was asked for at this moment, on the clock of the server that asked:
+    /// the slowest clock that the drift allows has then counted the whole length. It may be a time
+    /// that no clock can show.
     pub fn lease_end(self, length: LeaseLength, drift: Drift) -> Time
         ensures { result ≡ lease_end self.micros length.micros drift.thousandths }
     {
@@ -82,10 +88,11 @@ impl Moment {
     }
 }
 
+/// In microseconds. Refused is any number above 1,000,000,000.
 impl TryFrom<u64> for LeaseLength {
     type Error = OutOfRange;
 
-    ghost try_from_gives = { λ x r. Checked (λ l. l.micros) (nat_le x 1000000000) x r };
+    ghost try_from_gives = { λ x r. Checked (λ l. l.micros) (nat_le x longest) x r };
 
     fn try_from(micros: u64) -> Result<LeaseLength, OutOfRange> {
         if micros <= LeaseLength::LONGEST as u64 {
@@ -99,9 +106,10 @@ impl TryFrom<u64> for LeaseLength {
 }
 
 impl LeaseLength {
-    // The longest, in microseconds.
+    /// The longest, in microseconds.
     pub const LONGEST: u32 = 1_000_000_000;
 
+    /// The length in microseconds: 0 to 1,000,000,000.
     // Named for the unit, which `u32::from` would leave out.
     pub fn micros(self) -> u32
         ensures { result ≡ self.micros }
@@ -110,10 +118,11 @@ impl LeaseLength {
     }
 }
 
+/// In thousandths. Refused is any number above 999.
 impl TryFrom<u64> for Drift {
     type Error = OutOfRange;
 
-    ghost try_from_gives = { λ x r. Checked (λ d. d.thousandths) (nat_le x 999) x r };
+    ghost try_from_gives = { λ x r. Checked (λ d. d.thousandths) (nat_le x highest_drift) x r };
 
     fn try_from(thousandths: u64) -> Result<Drift, OutOfRange> {
         if thousandths <= Drift::HIGHEST as u64 {
@@ -127,9 +136,10 @@ impl TryFrom<u64> for Drift {
 }
 
 impl Drift {
-    // The highest, in thousandths.
+    /// The highest, in thousandths.
     pub const HIGHEST: u16 = 999;
 
+    /// The drift in thousandths: 0 to 999.
     // Named for the unit, which `u16::from` would leave out.
     pub fn thousandths(self) -> u16
         ensures { result ≡ self.thousandths }
@@ -137,7 +147,8 @@ impl Drift {
         self.thousandths
     }
 
-    // Whether a clock that moved by `x` kept up with one that moved by `y`.
+    /// Whether a clock that moved by `x` microseconds kept up with one that moved by `y`: whether
+    /// 1,000 × x is at least (1,000 - drift) × y. Any two increments may be asked about.
     pub fn keeps(self, x: u64, y: u64) -> bool
         ensures { result ≡ keeps_pair self.thousandths x y }
     {

@@ -5,14 +5,16 @@ use crate::out_of_range::OutOfRange;
 use std::alloc::AllocError;
 use std::marker::PhantomData;
 
-// What is numbered. Its numbers are those below the limit.
+/// What is numbered. Its numbers are those below the limit.
 pub trait Kind {
     ghost LIMIT: { ℕ };
 
+    /// The first number that is none of its own.
     const LIMIT: u8;
 }
 
-// A number that was checked once. Numbers of two kinds are of two types, and are never mixed.
+/// A number that was checked once: it is below the limit of its kind. Numbers of two kinds are of
+/// two types, and are never mixed.
 #[derive_where(Debug, PartialEq, Eq, PartialOrd, Ord)]
 pub struct Number<K: Kind> {
     number: u8,
@@ -31,6 +33,7 @@ impl<K: Kind> Clone for Number<K> {
 
 impl<K: Kind> Copy for Number<K> {}
 
+/// Refused is any number at or above the limit of the kind.
 impl<K: Kind> TryFrom<u8> for Number<K> {
     type Error = OutOfRange;
 
@@ -49,6 +52,7 @@ impl<K: Kind> TryFrom<u8> for Number<K> {
 }
 
 impl<K: Kind> Number<K> {
+    /// The number, below the limit of its kind.
     // Named as std's `NonZero::get` is; a `From` would be no plainer.
     pub fn get(self) -> u8
         ensures is { result ≡ self.number }
@@ -57,7 +61,7 @@ impl<K: Kind> Number<K> {
         self.number
     }
 
-    // The number as a place of a table.
+    /// The number as a place of a table, below the limit of its kind.
     pub fn index(self) -> usize
         ensures is { result ≡ self.number }
         ensures inside { result < K.LIMIT }

@@ -1,6 +1,6 @@
-// Quorum systems: a count of members and two families of member sets, such that every read set
-// shares a member with every write set. Also the one refusal type of the whole library, since
-// every layer stands on this one.
+//! Quorum systems: a count of members and two families of member sets, such that every read set
+//! shares a member with every write set. Also the one refusal type of the whole library, since
+//! every layer stands on this one.
 #![tactic(auto)]
 
 mod listing;

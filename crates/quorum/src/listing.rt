@@ -7,7 +7,7 @@ ghost use Rattle.quorum.specs.Words.{all_numbers_text, set_text};
 use crate::member_set::MemberSet;
 use std::fmt;
 
-// The numbers in a set, rising.
+/// The numbers in a set, rising, as `0, 1, 63`. The empty set is `nobody`.
 impl fmt::Display for MemberSet {
     ghost output = { λ s. Some (set_text s.0) };
 
@@ -25,7 +25,8 @@ fn tell_numbers<W: fmt::Write, I: Iterator<Item = u8> + Drop>(
 ) -> fmt::Result
     requires begins { I.can_next numbers }
     requires ends { IsFinite (I.remaining numbers) }
-    ensures { (ns : List ℕ) → AlwaysYields I.next_gives (λ n. n) numbers ns → WritesOnOk W.write_str_gives f.old result (all_numbers_text ns) f.new }
+    ensures { (ns : List ℕ) → AlwaysYields I.next_gives (λ n. n) numbers ns
+        → WritesOnOk W.write_str_gives f.old result (all_numbers_text ns) f.new }
 {
     let Some(first) = numbers.next() else {
         return f.write_str("nobody");

@@ -1,6 +1,6 @@
 ghost use Rattle.std.specs.Prelude.{◌≡◌, ◌+◌, ◌/◌};
 ghost use Rattle.quorum.specs.Systems.{majority};
-ghost use Rattle.quorum.specs.Making.{Made};
+ghost use Rattle.quorum.specs.Making.{Made, majority_count};
 ghost use Rattle.quorum.specs.Laws.{majority_lawful};
 
 use crate::member_count::MemberCount;
@@ -8,15 +8,16 @@ use crate::member_set::MemberSet;
 use crate::refusal::Refusal;
 use crate::system::QuorumSystem;
 
-// Both families are the sets of more than half of the members.
+/// The system of which both families are the sets of more than half of the members.
 #[derive(Clone, Copy, Debug, PartialEq, Eq)]
 pub struct Majority {
     members: MemberCount,
 }
 
 impl Majority {
+    /// A majority of `count` members. Refuses 10 for any count outside 1 to 64.
     pub fn new(count: u64) -> Result<Majority, Refusal>
-        ensures { Made (λ q. q.members.count) count result }
+        ensures { Made majority_count count result }
     {
         Ok(Majority {
             members: MemberCount::try_from(count)?,
@@ -25,7 +26,7 @@ impl Majority {
 
     // How many members a set of either family has at least: more than half.
     fn least(&self) -> u8
-        ensures { result ≡ self.now.members.count / 2 + 1 }
+        ensures { result ≡ majority_count self.now / 2 + 1 }
     {
         let half = self.members.get() / 2;
         half + 1
@@ -33,9 +34,11 @@ impl Majority {
 }
 
 impl QuorumSystem for Majority {
-    ghost meaning = { λ q. majority q.members.count };
+    ghost meaning = { λ q. majority (majority_count q) };
 
-    ghost lawful = { λ q. majority_lawful q.members.count q.members.counted.0 q.members.counted.1 };
+    ghost lawful = { λ q.
+        let counted = q.members.counted in
+        majority_lawful (majority_count q) counted.0 counted.1 };
 
     fn count(&self) -> u8 {
         self.members.get()

@@ -4,7 +4,8 @@ ghost use Rattle.quorum.specs.Refusals.{number_of, text_of};
 use std::error::Error;
 use std::fmt;
 
-/// Why a call refuses. A refusal alters nothing. Outside it is known by its number, and prints its text.
+/// Why a call refuses. A refusal alters nothing. Outside it is known by its number, and prints its
+/// text.
 #[derive(Clone, Copy, Debug, PartialEq, Eq)]
 pub enum Refusal {
     /// Opening a field that is open.
@@ -60,7 +61,7 @@ impl fmt::Display for Refusal {
     ghost output = { λ r. Some (text_of r) };
 
     fn fmt<W: fmt::Write>(&self, f: &mut fmt::Formatter<W>) -> fmt::Result {
-        let text = match self {
+        f.write_str(match self {
             Refusal::AlreadyOpen => "the field is open already",
             Refusal::TooManyMembers => "a quorum system has more than 8 members",
             Refusal::ObjectCount => "there are 1 to 16 objects",
@@ -80,8 +81,7 @@ impl fmt::Display for Refusal {
             Refusal::NoSuchMessage => "there is no such message",
             Refusal::NoRoomToDeliver => "fewer than 9 places of the log are free to deliver",
             Refusal::OutOfRange => "a number of the message, or of its operation, is out of range",
-        };
-        f.write_str(text)
+        })
     }
 }
 

@@ -1,6 +1,8 @@
-// The two systems of a field: one over its input servers, and one over its output servers.
+/// The two systems of a field.
 #[derive(Drop)]
 pub struct Systems<I, O> {
+    /// The one over the input servers.
     pub inputs: I,
+    /// The one over the output servers.
     pub outputs: O,
 }

@@ -1,21 +1,23 @@
-// What losses of members leave of a quorum system: whether reads and writes still find their
-// sets, and the smallest set that each can do with. Both go over all sets of the members.
+//! What losses of members leave of a quorum system: whether reads and writes still find their
+//! sets, and the smallest set that each can do with. Both go over all sets of the members.
 ghost use Rattle.std.specs.Prelude.{◌≡◌, ◌≤◌};
 ghost use Rattle.survey.specs.Losses.{sets_of, limit, FindsAfter, Surveyed, FirstToPass};
 ghost use Rattle.survey.specs.Smallest.{Smallest};
 
 use quorum::{MemberSet, QuorumSystem, Refusal};
 
-// The two families of sets of a system.
+/// The two families of sets of a system.
 // Two cases, and no Option or Result: each is a family of its own.
 #[derive(Clone, Copy)]
 pub enum Family {
+    /// The sets that are enough to read from.
     Read,
+    /// The sets that are enough to write to.
     Write,
 }
 
 impl Family {
-    // Whether the set is in this family of the system.
+    /// Whether the set is in this family of the system. One with a place beyond the members never is.
     pub fn has<Q: QuorumSystem>(self, system: &Q, set: MemberSet) -> bool
         ensures { result ≡ sets_of self (Q.meaning system.now) set.0 }
     {
@@ -26,12 +28,14 @@ impl Family {
     }
 }
 
-// Whether the members that are left are a set of a family: whichever were lost, for some losses
-// and not for others, or for none.
+/// Whether the members that are left are a set of a family.
 #[derive(Clone, Copy, Debug, PartialEq)]
 pub enum Finds {
+    /// Whichever members were lost.
     Always,
+    /// For some losses and not for others.
     Sometimes,
+    /// For no losses.
     Never,
 }
 
@@ -63,8 +67,9 @@ fn first_set<F: Fn(MemberSet) -> bool>(size: u8, count: u8, passes: F) -> Option
         .map(MemberSet)
 }
 
-// Whether what is left after that many losses is a set of the family. To lose more members than
-// there are is to lose them all.
+/// Whether what is left after that many losses is a set of the family. To lose more members than
+/// there are is to lose them all, so any number of losses will do. Refuses 2 for a system of more than
+/// 8 members, whose sets are too many to go over.
 pub fn finds_after<Q: QuorumSystem>(system: &Q, family: Family, lost: u8) -> Result<Finds, Refusal>
     ensures { let q = Q.meaning system.now in
         Surveyed q (FindsAfter (sets_of family q) q.count lost) result }
@@ -81,7 +86,8 @@ pub fn finds_after<Q: QuorumSystem>(system: &Q, family: Family, lost: u8) -> Res
     Ok(finds)
 }
 
-// The smallest set of the family and, of those of its size, the lowest as a number.
+/// The smallest set of the family and, of those of its size, the lowest as a number. Refuses 2 for a
+/// system of more than 8 members, whose sets are too many to go over.
 pub fn smallest_set<Q: QuorumSystem>(system: &Q, family: Family) -> Result<MemberSet, Refusal>
     ensures { let q = Q.meaning system.now in
         Surveyed q (λ s. Smallest (sets_of family q) q.count s.0) result }
