@@ -6,7 +6,7 @@ use numbers::{
 };
 use quorum::MemberSet;
 use rules::{InRange, Log, Message, Pair, Pairs, Parts, Renewal, Renewed};
-use std::process::Abort;
+use std::fmt::{Debug, Display};
 use std::test::*;
 
 // Every lease that is granted lasts so long.
@@ -54,13 +54,7 @@ impl Stage {
     }
 
     // A renewal request of an output server, stamped with 70. One message is logged.
-    pub(crate) fn renew(
-        &mut self,
-        rt: &impl Abort,
-        output: u8,
-        parts: Parts,
-        object: u8,
-    ) -> Result<(), Fail> {
+    pub(crate) fn renew(&mut self, output: u8, parts: Parts, object: u8) -> Result<(), Fail> {
         let request = RenewalRequest {
             output: OutputNumber::try_from(output)?,
             renewal: InRange::alone(Renewal {
@@ -72,7 +66,7 @@ impl Stage {
         };
         let mut log = Log::new(&mut self.log, 0);
         self.server.answer_renewal(self.me, &request, &mut log)?;
-        assert_eq!(rt; log.made(), 1);
+        expect_made(log.made(), 1)?;
         Ok(())
     }
 
@@ -114,28 +108,21 @@ impl Stage {
     }
 
     // As the tests of output servers have it: no crate of tests stands on another.
-    pub(crate) fn expect(
-        &self,
-        rt: &impl Abort,
-        place: usize,
-        message: Message,
-    ) -> Result<(), Fail> {
-        assert_eq!(rt;
-            self.log.get(place),
-            Some(&message),
-            "message {place} of the step"
-        );
-        Ok(())
+    pub(crate) fn expect(&self, place: usize, message: Message) -> Result<(), Fail> {
+        expect_same(
+            format_args!("message {place} of the step"),
+            &self.log.get(place),
+            &Some(&message),
+        )
     }
 
     // That a clock question is answered by that clock.
-    pub(crate) fn expect_clock(&mut self, rt: &impl Abort, clock: u16) -> Result<(), Fail> {
+    pub(crate) fn expect_clock(&mut self, clock: u16) -> Result<(), Fail> {
         let mut log = Log::new(&mut self.log, 0);
         let operation = OperationNumber::try_from(9)?;
         self.server.answer_clock(self.me, operation, &mut log)?;
-        assert_eq!(rt; log.made(), 1);
+        expect_made(log.made(), 1)?;
         self.expect(
-            rt,
             0,
             Message::ClockAnswer {
                 input: 2,
@@ -149,15 +136,13 @@ impl Stage {
     // the answer grants, if it does, is granted then.
     pub(crate) fn expect_waiting(
         &mut self,
-        rt: &impl Abort,
         output: u8,
         epoch: u32,
         length: u32,
         list: Pairs,
     ) -> Result<(), Fail> {
-        self.renew(rt, output, Parts::Volume, 0)?;
+        self.renew(output, Parts::Volume, 0)?;
         self.expect(
-            rt,
             0,
             Message::RenewalAnswer {
                 input: 2,
@@ -182,15 +167,13 @@ impl Stage {
     // nothing waiting.
     pub(crate) fn expect_given(
         &mut self,
-        rt: &impl Abort,
         parts: Parts,
         version: Version,
         value: u64,
         length: u32,
     ) -> Result<(), Fail> {
-        self.renew(rt, 0, parts, 3)?;
+        self.renew(0, parts, 3)?;
         self.expect(
-            rt,
             0,
             Message::RenewalAnswer {
                 input: 2,
@@ -214,14 +197,12 @@ impl Stage {
     // That at a write request output server 0, the only one, is told of the version `held`.
     pub(crate) fn expect_told(
         &mut self,
-        rt: &impl Abort,
         object: u8,
         version: Version,
         held: Version,
     ) -> Result<(), Fail> {
-        assert_eq!(rt; self.write(object, version)?, 2);
+        expect_made(self.write(object, version)?, 2)?;
         self.expect(
-            rt,
             0,
             Message::Invalidation {
                 input: 2,
@@ -230,18 +211,13 @@ impl Stage {
                 version: held,
             },
         )?;
-        self.expect(rt, 1, named(0))
+        self.expect(1, named(0))
     }
 
     // That at a write request output server 0, the only one, is shut out.
-    pub(crate) fn expect_shut_out(
-        &mut self,
-        rt: &impl Abort,
-        object: u8,
-        version: Version,
-    ) -> Result<(), Fail> {
-        assert_eq!(rt; self.write(object, version)?, 1);
-        self.expect(rt, 0, named(1))
+    pub(crate) fn expect_shut_out(&mut self, object: u8, version: Version) -> Result<(), Fail> {
+        expect_made(self.write(object, version)?, 1)?;
+        self.expect(0, named(1))
     }
 }
 
@@ -256,4 +232,21 @@ pub(crate) fn named(shut_out: u64) -> Message {
 
 pub(crate) fn pair(object: u8, version: Version) -> Pair {
     Pair { object, version }
+}
+
+// That what is found there is what is wanted.
+pub(crate) fn expect_same<T: PartialEq + Debug>(
+    place: impl Display + Drop,
+    found: &T,
+    wanted: &T,
+) -> Result<(), Fail> {
+    if found == wanted {
+        return Ok(());
+    }
+    Err(Fail::new(format_args!("{place}: {found:?}, and not {wanted:?}")))
+}
+
+// That a step logged so many messages.
+pub(crate) fn expect_made(found: usize, wanted: usize) -> Result<(), Fail> {
+    expect_same("messages of the step", &found, &wanted)
 }

@@ -1,9 +1,8 @@
 // Input servers, by example.
 // Tests that read alike differ in their values, which is what each is for.
-use crate::stage::{LEASE, Stage, named, pair};
+use crate::stage::{LEASE, Stage, expect_made, expect_same, named, pair};
 use numbers::Version;
 use rules::{Message, Pair, Pairs, Parts};
-use std::process::Abort;
 use std::test::*;
 
 fn two(first: Pair, second: Pair) -> Pairs {
@@ -31,20 +30,20 @@ fn eight(version: Version) -> Pairs {
 }
 
 // One output server, which was given the objects 3 and 5 and has a lease until 1,000.
-fn given_two(rt: &impl Abort) -> Result<Stage, Fail> {
+fn given_two() -> Result<Stage, Fail> {
     let mut stage = Stage::new(1)?;
-    stage.renew(rt, 0, Parts::Both, 3)?;
-    stage.renew(rt, 0, Parts::Object, 5)?;
+    stage.renew(0, Parts::Both, 3)?;
+    stage.renew(0, Parts::Object, 5)?;
     Ok(stage)
 }
 
 // Output server 0 was given the objects 0 to 8 and has a lease until 1,000. What is given to one
 // output server counts as given to all, so that a write has to be queued for each of them.
-fn given_nine(rt: &impl Abort, outputs: u8) -> Result<Stage, Fail> {
+fn given_nine(outputs: u8) -> Result<Stage, Fail> {
     let mut stage = Stage::new(outputs)?;
-    stage.renew(rt, 0, Parts::Both, 0)?;
+    stage.renew(0, Parts::Both, 0)?;
     for object in 1..9 {
-        stage.renew(rt, 0, Parts::Object, object)?;
+        stage.renew(0, Parts::Object, object)?;
     }
     Ok(stage)
 }
@@ -52,13 +51,13 @@ fn given_nine(rt: &impl Abort, outputs: u8) -> Result<Stage, Fail> {
 // The third write finds object 3 in the chain: its record takes the higher version and keeps its
 // place before object 5.
 #[test]
-fn second_write_to_a_queued_object(rt: HostRuntime) -> Result<(), Fail> {
-    let mut stage = given_two(&rt)?;
-    stage.expect_told(&rt, 3, Version::new(2, 1), Version::new(2, 1))?;
-    stage.expect_told(&rt, 5, Version::new(2, 2), Version::new(2, 2))?;
-    stage.expect_told(&rt, 3, Version::new(3, 3), Version::new(3, 3))?;
+fn second_write_to_a_queued_object() -> Result<(), Fail> {
+    let mut stage = given_two()?;
+    stage.expect_told(3, Version::new(2, 1), Version::new(2, 1))?;
+    stage.expect_told(5, Version::new(2, 2), Version::new(2, 2))?;
+    stage.expect_told(3, Version::new(3, 3), Version::new(3, 3))?;
     let waiting = two(pair(3, Version::new(3, 3)), pair(5, Version::new(2, 2)));
-    stage.expect_waiting(&rt, 0, 1, LEASE, waiting)
+    stage.expect_waiting(0, 1, LEASE, waiting)
 }
 
 // Eight objects for each of eight output servers are 64 records. The ninth object finds none free
@@ -66,151 +65,154 @@ fn second_write_to_a_queued_object(rt: HostRuntime) -> Result<(), Fail> {
 // seven after it take seven of those eight, so that nine wait for each of them; the last one shows
 // its ninth once the first eight are acknowledged.
 #[test]
-fn sixty_fifth_record(rt: HostRuntime) -> Result<(), Fail> {
+fn sixty_fifth_record() -> Result<(), Fail> {
     let all = Version::new(2, 1);
     let ninth = Version::new(2, 2);
-    let mut stage = given_nine(&rt, 8)?;
+    let mut stage = given_nine(8)?;
     for object in 0..8 {
-        assert_eq!(rt; stage.write(object, all)?, 2);
+        expect_made(stage.write(object, all)?, 2)?;
     }
-    assert_eq!(rt; stage.write(8, ninth)?, 2);
+    expect_made(stage.write(8, ninth)?, 2)?;
     // output server 0 alone has a lease, and is told; the others are shut out
-    stage.expect(&rt, 1, named(0b1111_1110))?;
-    stage.expect_waiting(&rt, 0, 2, LEASE, Pairs::empty())?;
-    stage.expect_waiting(&rt, 1, 1, 0, eight(all))?;
-    stage.expect_waiting(&rt, 7, 1, 0, eight(all))?;
+    stage.expect(1, named(0b1111_1110))?;
+    stage.expect_waiting(0, 2, LEASE, Pairs::empty())?;
+    stage.expect_waiting(1, 1, 0, eight(all))?;
+    stage.expect_waiting(7, 1, 0, eight(all))?;
     stage.acknowledge(7, eight(all))?;
-    stage.expect_waiting(&rt, 7, 1, LEASE, Pairs::one(pair(8, ninth)))
+    stage.expect_waiting(7, 1, LEASE, Pairs::one(pair(8, ninth)))
 }
 
 // Object 5 is acknowledged with a version above the one that waits for object 3. Only the record of
 // object 5 is freed.
 #[test]
-fn acknowledging_one_object_leaves_another(rt: HostRuntime) -> Result<(), Fail> {
-    let mut stage = given_two(&rt)?;
+fn acknowledging_one_object_leaves_another() -> Result<(), Fail> {
+    let mut stage = given_two()?;
     stage.write(3, Version::new(2, 1))?;
     stage.write(5, Version::new(3, 2))?;
     stage.acknowledge(0, Pairs::one(pair(5, Version::new(3, 2))))?;
-    stage.expect_waiting(&rt, 0, 1, LEASE, Pairs::one(pair(3, Version::new(2, 1))))
+    stage.expect_waiting(0, 1, LEASE, Pairs::one(pair(3, Version::new(2, 1))))
 }
 
 // The first acknowledgement frees the record. After the object was given again, the next write is
 // queued anew; the old acknowledgement does not raise what was acknowledged, and the record, whose
 // version is above it, stays. An empty list changes nothing.
 #[test]
-fn old_acknowledgement_again(rt: HostRuntime) -> Result<(), Fail> {
+fn old_acknowledgement_again() -> Result<(), Fail> {
     let old = Version::new(2, 1);
     let new = Version::new(3, 2);
-    let mut stage = given_two(&rt)?;
+    let mut stage = given_two()?;
     stage.write(3, old)?;
     stage.acknowledge(0, Pairs::one(pair(3, old)))?;
-    stage.expect_waiting(&rt, 0, 1, LEASE, Pairs::empty())?;
-    stage.renew(&rt, 0, Parts::Object, 3)?;
+    stage.expect_waiting(0, 1, LEASE, Pairs::empty())?;
+    stage.renew(0, Parts::Object, 3)?;
     stage.write(3, new)?;
     stage.acknowledge(0, Pairs::one(pair(3, old)))?;
     stage.acknowledge(0, Pairs::empty())?;
-    stage.expect_waiting(&rt, 0, 1, LEASE, Pairs::one(pair(3, new)))
+    stage.expect_waiting(0, 1, LEASE, Pairs::one(pair(3, new)))
 }
 
 // With nine waiting no lease is granted: at 500 the answer shows eight pairs and the length 0, and
 // the lease still ends at 1,000.
 #[test]
-fn nine_waiting(rt: HostRuntime) -> Result<(), Fail> {
-    let mut stage = given_nine(&rt, 1)?;
+fn nine_waiting() -> Result<(), Fail> {
+    let mut stage = given_nine(1)?;
     for object in 0..9 {
-        assert_eq!(rt; stage.write(object, Version::new(2, 1))?, 2);
+        expect_made(stage.write(object, Version::new(2, 1))?, 2)?;
     }
     stage.tick(500)?;
-    stage.expect_waiting(&rt, 0, 1, 0, eight(Version::new(2, 1)))?;
+    stage.expect_waiting(0, 1, 0, eight(Version::new(2, 1)))?;
     stage.tick(499)?;
-    stage.expect_told(&rt, 0, Version::new(3, 1), Version::new(3, 1))?;
+    stage.expect_told(0, Version::new(3, 1), Version::new(3, 1))?;
     stage.tick(1)?;
-    stage.expect_shut_out(&rt, 0, Version::new(4, 1))
+    stage.expect_shut_out(0, Version::new(4, 1))
 }
 
 // With eight waiting a lease is granted: from 500 on it ends at 1,500. The output server is not shut
 // out at 1,499, and is at 1,500.
 #[test]
-fn eight_waiting(rt: HostRuntime) -> Result<(), Fail> {
-    let mut stage = given_nine(&rt, 1)?;
+fn eight_waiting() -> Result<(), Fail> {
+    let mut stage = given_nine(1)?;
     for object in 0..8 {
-        assert_eq!(rt; stage.write(object, Version::new(2, 1))?, 2);
+        expect_made(stage.write(object, Version::new(2, 1))?, 2)?;
     }
     stage.tick(500)?;
-    stage.expect_waiting(&rt, 0, 1, LEASE, eight(Version::new(2, 1)))?;
+    stage.expect_waiting(0, 1, LEASE, eight(Version::new(2, 1)))?;
     stage.tick(999)?;
-    stage.expect_told(&rt, 0, Version::new(3, 1), Version::new(3, 1))?;
+    stage.expect_told(0, Version::new(3, 1), Version::new(3, 1))?;
     stage.tick(1)?;
-    stage.expect_shut_out(&rt, 0, Version::new(4, 1))
+    stage.expect_shut_out(0, Version::new(4, 1))
 }
 
 // The lease is live in each of these, so that it is not what shuts out.
 #[test]
-fn shut_out_under_a_live_lease(rt: HostRuntime) -> Result<(), Fail> {
+fn shut_out_under_a_live_lease() -> Result<(), Fail> {
     // object 4 was given to nobody
-    let mut stage = given_two(&rt)?;
-    stage.expect_shut_out(&rt, 4, Version::new(2, 1))?;
+    let mut stage = given_two()?;
+    stage.expect_shut_out(4, Version::new(2, 1))?;
     // object 3 was given with its starting version, and 2·65,536 + 1 is acknowledged, which is above
-    stage.expect_told(&rt, 3, Version::new(2, 1), Version::new(2, 1))?;
+    stage.expect_told(3, Version::new(2, 1), Version::new(2, 1))?;
     stage.acknowledge(0, Pairs::one(pair(3, Version::new(2, 1))))?;
-    stage.expect_shut_out(&rt, 3, Version::new(3, 2))?;
+    stage.expect_shut_out(3, Version::new(3, 2))?;
     // it is given and acknowledged with the version that is held, and the same request comes again
-    stage.renew(&rt, 0, Parts::Object, 3)?;
+    stage.renew(0, Parts::Object, 3)?;
     stage.acknowledge(0, Pairs::one(pair(3, Version::new(3, 2))))?;
-    stage.expect_shut_out(&rt, 3, Version::new(3, 2))?;
+    stage.expect_shut_out(3, Version::new(3, 2))?;
     // a version above the one acknowledged is told
-    stage.expect_told(&rt, 3, Version::new(4, 3), Version::new(4, 3))
+    stage.expect_told(3, Version::new(4, 3), Version::new(4, 3))
 }
 
 // A write that comes late is not taken; those who have a copy are told of the version held all the
 // same. The highest clock of any version taken starts at 1 and is that of the write that was taken.
 #[test]
-fn older_write(rt: HostRuntime) -> Result<(), Fail> {
-    let mut stage = given_two(&rt)?;
-    stage.expect_clock(&rt, 1)?;
-    stage.expect_told(&rt, 3, Version::new(5, 1), Version::new(5, 1))?;
-    stage.expect_told(&rt, 3, Version::new(4, 2), Version::new(5, 1))?;
-    stage.expect_clock(&rt, 5)
+fn older_write() -> Result<(), Fail> {
+    let mut stage = given_two()?;
+    stage.expect_clock(1)?;
+    stage.expect_told(3, Version::new(5, 1), Version::new(5, 1))?;
+    stage.expect_told(3, Version::new(4, 2), Version::new(5, 1))?;
+    stage.expect_clock(5)
 }
 
 // Without the object part version and value are 0, without the volume part the length is 0. Only
 // what was given with an object part has to be told, and only under a lease.
 #[test]
-fn parts_of_a_renewal(rt: HostRuntime) -> Result<(), Fail> {
+fn parts_of_a_renewal() -> Result<(), Fail> {
     let first = Version::new(2, 1);
     let mut volume = Stage::new(1)?;
-    volume.expect_shut_out(&rt, 3, first)?;
-    volume.expect_given(&rt, Parts::Volume, Version::NONE, 0, LEASE)?;
-    volume.expect_shut_out(&rt, 3, Version::new(3, 2))?;
+    volume.expect_shut_out(3, first)?;
+    volume.expect_given(Parts::Volume, Version::NONE, 0, LEASE)?;
+    volume.expect_shut_out(3, Version::new(3, 2))?;
     let mut object = Stage::new(1)?;
-    object.expect_shut_out(&rt, 3, first)?;
-    object.expect_given(&rt, Parts::Object, first, 5, 0)?;
-    object.expect_shut_out(&rt, 3, Version::new(3, 2))?;
+    object.expect_shut_out(3, first)?;
+    object.expect_given(Parts::Object, first, 5, 0)?;
+    object.expect_shut_out(3, Version::new(3, 2))?;
     let mut both = Stage::new(1)?;
-    both.expect_shut_out(&rt, 3, first)?;
-    both.expect_given(&rt, Parts::Both, first, 5, LEASE)?;
-    both.expect_told(&rt, 3, Version::new(3, 2), Version::new(3, 2))
+    both.expect_shut_out(3, first)?;
+    both.expect_given(Parts::Both, first, 5, LEASE)?;
+    both.expect_told(3, Version::new(3, 2), Version::new(3, 2))
 }
 
 // With eight places free a write is refused, takes nothing, queues nothing and logs nothing: what
 // was logged before is still there. A clock that would pass 2^40 stays.
 #[test]
-fn refusals_alter_nothing(rt: HostRuntime) -> Result<(), Fail> {
-    let mut stage = given_two(&rt)?;
-    stage.expect_clock(&rt, 1)?;
-    assert_eq!(rt; stage.write_refused(3, Version::new(2, 1))?, Some(32));
+fn refusals_alter_nothing() -> Result<(), Fail> {
+    let mut stage = given_two()?;
+    stage.expect_clock(1)?;
+    expect_same(
+        "the refusal",
+        &stage.write_refused(3, Version::new(2, 1))?,
+        &Some(32),
+    )?;
     stage.expect(
-        &rt,
         4,
         Message::ClockQuestion {
             operation: 0,
             input: 0,
         },
     )?;
-    stage.expect_clock(&rt, 1)?;
-    stage.expect_waiting(&rt, 0, 1, LEASE, Pairs::empty())?;
+    stage.expect_clock(1)?;
+    stage.expect_waiting(0, 1, LEASE, Pairs::empty())?;
     stage.tick(7)?;
-    assert_eq!(rt; stage.tick_refused((1 << 40) - 6), Some(12));
-    assert_eq!(rt; stage.clock(), 7);
+    expect_same("the refusal", &stage.tick_refused((1 << 40) - 6), &Some(12))?;
+    expect_same("the clock", &stage.clock(), &7)?;
     Ok(())
 }

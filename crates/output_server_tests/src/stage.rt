@@ -5,7 +5,7 @@ use numbers::{
 use output_server::OutputServer;
 use quorum::Majority;
 use rules::{InRange, Log, Message, Pair, Pairs, Parts, Renewal, Renewed};
-use std::process::Abort;
+use std::fmt::{Debug, Display};
 use std::test::*;
 
 // A renewal answer about object 3, in plain numbers.
@@ -98,19 +98,14 @@ impl Stage {
     }
 
     // An invalidation of object 3 by an input server, and that it is acknowledged.
-    pub(crate) fn invalidated(
-        &mut self,
-        rt: &impl Abort,
-        input: u8,
-        version: Version,
-    ) -> Result<(), Fail> {
+    pub(crate) fn invalidated(&mut self, input: u8, version: Version) -> Result<(), Fail> {
         let number = InputNumber::try_from(input)?;
         let pair = self.pair(version)?;
         let mut log = Log::new(&mut self.log, 0);
         self.server
             .take_invalidation(self.me, number, &pair, &mut log)?;
-        assert_eq!(rt; log.made(), 1);
-        self.expect_acknowledged(rt, input, told(version))
+        expect_made(log.made(), 1)?;
+        self.expect_acknowledged(input, told(version))
     }
 
     // The number by which an invalidation is refused where 4 messages of 12 are made, and 8 free, if
@@ -130,29 +125,17 @@ impl Stage {
     }
 
     // As the tests of input servers have it: no crate of tests stands on another.
-    pub(crate) fn expect(
-        &self,
-        rt: &impl Abort,
-        place: usize,
-        message: Message,
-    ) -> Result<(), Fail> {
-        assert_eq!(rt;
-            self.log.get(place),
-            Some(&message),
-            "message {place} of the step"
-        );
-        Ok(())
+    pub(crate) fn expect(&self, place: usize, message: Message) -> Result<(), Fail> {
+        expect_same(
+            format_args!("message {place} of the step"),
+            &self.log.get(place),
+            &Some(&message),
+        )
     }
 
     // That the step logged an acknowledgement of that list.
-    pub(crate) fn expect_acknowledged(
-        &self,
-        rt: &impl Abort,
-        input: u8,
-        list: Pairs,
-    ) -> Result<(), Fail> {
+    pub(crate) fn expect_acknowledged(&self, input: u8, list: Pairs) -> Result<(), Fail> {
         self.expect(
-            rt,
             0,
             Message::InvalidationAnswer {
                 output: 4,
@@ -163,15 +146,9 @@ impl Stage {
     }
 
     // That a read is answered by that version and value.
-    pub(crate) fn expect_read(
-        &mut self,
-        rt: &impl Abort,
-        version: Version,
-        value: u64,
-    ) -> Result<(), Fail> {
-        assert_eq!(rt; self.read()?, 1);
+    pub(crate) fn expect_read(&mut self, version: Version, value: u64) -> Result<(), Fail> {
+        expect_made(self.read()?, 1)?;
         self.expect(
-            rt,
             0,
             Message::ReadAnswer {
                 output: 4,
@@ -184,27 +161,19 @@ impl Stage {
 
     // That a read makes one renewal request alone: to that input server, for those parts, stamped
     // with that clock.
-    pub(crate) fn expect_asked(
-        &mut self,
-        rt: &impl Abort,
-        input: u8,
-        parts: Parts,
-        stamp: u64,
-    ) -> Result<(), Fail> {
-        assert_eq!(rt; self.read()?, 1);
-        self.expect_request(rt, 0, input, parts, stamp)
+    pub(crate) fn expect_asked(&mut self, input: u8, parts: Parts, stamp: u64) -> Result<(), Fail> {
+        expect_made(self.read()?, 1)?;
+        self.expect_request(0, input, parts, stamp)
     }
 
     pub(crate) fn expect_request(
         &self,
-        rt: &impl Abort,
         place: usize,
         input: u8,
         parts: Parts,
         stamp: u64,
     ) -> Result<(), Fail> {
         self.expect(
-            rt,
             place,
             Message::RenewalRequest {
                 output: 4,
@@ -222,4 +191,21 @@ impl Stage {
 // A list with object 3 alone.
 pub(crate) fn told(version: Version) -> Pairs {
     Pairs::one(Pair { object: 3, version })
+}
+
+// That what is found there is what is wanted.
+pub(crate) fn expect_same<T: PartialEq + Debug>(
+    place: impl Display + Drop,
+    found: &T,
+    wanted: &T,
+) -> Result<(), Fail> {
+    if found == wanted {
+        return Ok(());
+    }
+    Err(Fail::new(format_args!("{place}: {found:?}, and not {wanted:?}")))
+}
+
+// That a step logged so many messages.
+pub(crate) fn expect_made(found: usize, wanted: usize) -> Result<(), Fail> {
+    expect_same("messages of the step", &found, &wanted)
 }
