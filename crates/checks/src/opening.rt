@@ -3,7 +3,7 @@ ghost use Rattle.std.specs.Prelude.{◌≡◌, false};
 ghost use Rattle.rules.specs.Calls.{clocks_fit};
 ghost use Rattle.checks.specs.Refused.{refusal_said, opening_refusal};
 
-use numbers::{Drift, Input, Kind, LeaseLength, Object, Output, Time};
+use numbers::{Drift, InputIndex, Kind, LeaseLength, ObjectIndex, OutputIndex, Time};
 use quorum::Refusal;
 use rules::{MOST_MESSAGES, MOST_OPERATIONS, STEP_MESSAGES};
 
@@ -36,10 +36,10 @@ pub fn check_opening(
 ) -> Result<(), Refusal>
     ensures { refusal_said result ≡ opening_refusal false n m opening.objects opening.lease opening.drift clocks.now log_len table_len }
 {
-    if n > Input::LIMIT || m > Output::LIMIT {
+    if n > InputIndex::LIMIT || m > OutputIndex::LIMIT {
         return Err(Refusal::TooManyMembers);
     }
-    if opening.objects < 1 || opening.objects > Object::LIMIT as u64 {
+    if opening.objects < 1 || opening.objects > ObjectIndex::LIMIT as u64 {
         return Err(Refusal::ObjectCount);
     }
     if opening.lease < 1 || opening.lease > LeaseLength::LONGEST as u64 {

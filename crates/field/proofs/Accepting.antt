@@ -7,7 +7,7 @@ use Rattle.numbers.specs.Numbers.{between, is_version}
 use Rattle.rules.specs.declared.message.Message.{Message}
 use Rattle.rules.specs.declared.message.Message.TheVariants.{ClockAnswer, WriteAnswer, ReadAnswer}
 use Rattle.rules.specs.Operation.{Operation, unused, asking, sending, reading, ended, named_by}
-use Rattle.rules.specs.Ranges.{Counts, numbers_fit, operation_fits, named_fit, state_fits, has_room}
+use Rattle.rules.specs.Ranges.{Counts, numbers_fit, operation_fits, named_fit, state_fits, has_next_clock}
 use Rattle.operation.specs.Alone.{widest, too_many, refusal_with, refusal_at}
 use Rattle.field.specs.Delivered.{IsAnswerTo}
 use Rattle.field.proofs.Handing.{both}
@@ -72,7 +72,7 @@ module _ (i o : System) (c : Counts) (n_is : i.count ≡ c.n) (m_is : o.count �
 
   -- any place takes a message that the state there does not refuse by its own number
   accepts : (p : ℕ) (m : Message) (x : Operation) → IsOf p x
-      → ((own : ℕ) → own ≡ p → refusal_with i o own (state_fits (widest i o) own x) (has_room x) m ≡ 0) → refusal_at i o x m ≡ 0
+      → ((own : ℕ) → own ≡ p → refusal_with i o own (state_fits (widest i o) own x) (has_next_clock x) m ≡ 0) → refusal_at i o x m ≡ 0
   accepts p m (asking a) is f = f a.operation is
   accepts p m (sending w) is f = f w.operation is
   accepts p m (reading r) is f = f r.operation is
@@ -96,10 +96,10 @@ module _ (i o : System) (c : Counts) (n_is : i.count ≡ c.n) (m_is : o.count �
   names p m known room own t h f = absurd t
 
   pub accepted : (begun : ℕ) → begun ≤ 1024 → (p : ℕ) (m : Message) (at : ℕ → Operation) → IsAnswerTo p m → numbers_fit c m ≡ true
-      → operation_fits (λ q. between 1 begun q && state_fits c q (at q)) (λ q. has_room (at q)) m ≡ true
+      → operation_fits (λ q. between 1 begun q && state_fits c q (at q)) (λ q. has_next_clock (at q)) m ≡ true
       → (between 1 begun p && state_fits c p (at p)) ≡ true → refusal_at i o (at p) m ≡ 0
   accepted begun few p m at t a b known =
       let v = and_parts (between 1 begun p) (state_fits c p (at p)) known in
-      accepts p m (at p) (fits_is_of c p (at p) v.1) (λ own e. none own _ (has_room (at p)) m (wide p m t a)
-      (names p m _ (λ q. has_room (at q)) (λ q. eqb q own && (between 1 1024 own && state_fits (widest i o) own (at p))) t b
+      accepts p m (at p) (fits_is_of c p (at p) v.1) (λ own e. none own _ (has_next_clock (at p)) m (wide p m t a)
+      (names p m _ (λ q. has_next_clock (at q)) (λ q. eqb q own && (between 1 1024 own && state_fits (widest i o) own (at p))) t b
       (λ _. own_fits p own begun (at p) e few v.0 v.1)))

@@ -13,7 +13,7 @@ use Rattle.rules.specs.Output.{Output, later_output}
 use Rattle.rules.specs.Said.{accepted}
 use Rattle.rules.specs.State.{State, Outcome, outcome, refuse, no_input, no_output, input_at, output_at, with_input, with_output}
 use Rattle.field.specs.Checked.{advance_check}
-use Rattle.field.specs.Sides.{all_stay, all_later}
+use Rattle.field.specs.Servers.{all_stay, all_later}
 use Rattle.field.proofs.Calling.{later_tests, later_passed}
 use Rattle.field.proofs.Refusing.{decide, refuses_first, passes_first, call_refuses, call_passes}
 

@@ -15,7 +15,7 @@ use Rattle.rules.specs.Said.{began}
 use Rattle.rules.specs.State.{State, outcome, refuse, post}
 use Rattle.operation.specs.declared.table.Operation.{Operation}
 use Rattle.operation.specs.States.{operation_of}
-use Rattle.field.specs.declared.interior.Interior.{Interior}
+use Rattle.field.specs.declared.open_field.OpenField.{OpenField}
 use Rattle.field.specs.Checked.{beginning_check}
 use Rattle.field.specs.Sound.{Sound}
 use Rattle.field.specs.Views.{inputs_of, outputs_of, frame_of, state_of}
@@ -45,13 +45,13 @@ read_refuses i o b s e r =
     call_refuses e _ _ _ s (beginning_is i o b (reading (first_reading (s.begun + 1) b)) (read_requests (s.begun + 1) b s.frame.counts.m) s) r
 
 -- what is known where they pass
-pub record Beginnable (i o : System) (f : Interior) (log : List Message) (table : List Operation) (b : ℕ) : Type 0 where
+pub record Beginnable (i o : System) (f : OpenField) (log : List Message) (table : List Operation) (b : ℕ) : Type 0 where
   pub object : b < 16
   pub free : f.begun < length table
   pub few : f.begun < 1024
   pub room : f.made + 9 ≤ length log
 
-pub beginnable : (i o : System) (f : Interior) (log : List Message) (table : List Operation) (b : ℕ) → Sound (Some f)
+pub beginnable : (i o : System) (f : OpenField) (log : List Message) (table : List Operation) (b : ℕ) → Sound (Some f)
     → 0 ≡ beginning_check i o b (state_of f log table) → Beginnable i o f log table b
 beginnable i o f log table b sound r =
     let s = state_of f log table in
@@ -76,7 +76,7 @@ beginnable i o f log table b sound r =
 
 -- ---- what is left
 
-pub entered : (f : Interior) (log : List Message) (table : List Operation) (x : Operation)
+pub entered : (f : OpenField) (log : List Message) (table : List Operation) (x : Operation)
     → ◌≡◌ {A = State} (record {
       frame = frame_of f;
       made = f.made;

@@ -10,7 +10,7 @@ use Rattle.rules.specs.Calls.{as_opened, when_open, has_nine, message_at, hands_
 use Rattle.rules.specs.State.{State, Outcome, refuse}
 use Rattle.operation.specs.declared.table.Operation.{Operation}
 use Rattle.operation.specs.States.{operation_of}
-use Rattle.field.specs.declared.interior.Interior.{Interior}
+use Rattle.field.specs.declared.open_field.OpenField.{OpenField}
 use Rattle.field.specs.Checked.{later_refusal, delivery_check}
 use Rattle.field.specs.Delivered.{Deliverable}
 use Rattle.field.specs.Sound.{Sound}
@@ -21,13 +21,13 @@ use Rattle.field.proofs.Sounds.{Numbers, numbers_of, ready_of}
 -- ---- what is lent
 
 -- what every call but opening has found
-pub record Lent (i o : System) (f : Interior) (log : List Message) (table : List Operation) : Type 0 where
+pub record Lent (i o : System) (f : OpenField) (log : List Message) (table : List Operation) : Type 0 where
   pub log_as : length log ≡ f.log_len
   pub table_as : length table ≡ f.table_len
   pub inputs_as : i.count ≡ f.counts.inputs.number
   pub outputs_as : o.count ≡ f.counts.outputs.number
 
-pub lent_of : (i o : System) (f : Interior) (log : List Message) (table : List Operation) → as_opened i o (state_of f log table) ≡ true
+pub lent_of : (i o : System) (f : OpenField) (log : List Message) (table : List Operation) → as_opened i o (state_of f log table) ≡ true
     → Lent i o f log table
 lent_of i o f log table b =
     let p = and_parts (eqb (length log) f.log_len) _ b in
@@ -69,14 +69,14 @@ pub delivery_done : (i o : System) (number : ℕ) (s : State) (x : Outcome) → 
 delivery_done i o number s x r e = call_passes _ _ (hands_over i o (message_at s number) s) s (delivering_is i o number s) r ∙ e
 
 -- what is known then
-pub record Passed (i o : System) (f : Interior) (log : List Message) (table : List Operation) (number : ℕ) : Type 0 where
+pub record Passed (i o : System) (f : OpenField) (log : List Message) (table : List Operation) (number : ℕ) : Type 0 where
   pub lent : Lent i o f log table
   pub numbers : Numbers f
   pub low : 1 ≤ number
   pub made : number ≤ f.made
   pub room : f.made + 9 ≤ length log
 
-pub delivery_passed : (i o : System) (f : Interior) (log : List Message) (table : List Operation) (number : ℕ) → Sound (Some f)
+pub delivery_passed : (i o : System) (f : OpenField) (log : List Message) (table : List Operation) (number : ℕ) → Sound (Some f)
     → 0 ≡ delivery_check i o number (state_of f log table) → Passed i o f log table number
 delivery_passed i o f log table number sound r =
     let s = state_of f log table in
@@ -93,10 +93,10 @@ delivery_passed i o f log table number sound r =
       room = leb-true (f.made + 9) (length log) (not-false (has_nine s) t.0);
     }
 
-pub begun_in_table : (i o : System) (f : Interior) (log : List Message) (table : List Operation) (number : ℕ) → Passed i o f log table number → f.begun ≤ length table
+pub begun_in_table : (i o : System) (f : OpenField) (log : List Message) (table : List Operation) (number : ℕ) → Passed i o f log table number → f.begun ≤ length table
 begun_in_table i o f log table number p = let a = p.numbers.begun in let b = p.lent.table_as in omega arith
 
-pub deliverable : (i o : System) (f : Interior) (log : List Message) (table : List Operation) (number : ℕ) → Passed i o f log table number
+pub deliverable : (i o : System) (f : OpenField) (log : List Message) (table : List Operation) (number : ℕ) → Passed i o f log table number
     → Deliverable i o f log table number
 deliverable i o f log table number p = record {
   ready = ready_of f log p.numbers p.lent.log_as p.room;

@@ -5,15 +5,15 @@ use Rattle.rules.specs.declared.message.Message.{Message}
 use Rattle.rules.specs.Calls.{as_opened, when_open, advancing, beginning_write, beginning_read, delivering}
 use Rattle.rules.specs.State.{State, Outcome, refuse}
 use Rattle.operation.specs.declared.table.Operation.{Operation}
-use Rattle.field.specs.declared.interior.Interior.{Interior}
+use Rattle.field.specs.declared.open_field.OpenField.{OpenField}
 use Rattle.field.specs.Views.{field_of}
 
 closed : (i o : System) (s : State) (y : Outcome) → s.frame.is_open ≡ false → when_open i o s y ≡ refuse 8 s
 closed i o s y e = ap (λ (b : Bool). cond b (cond (as_opened i o s) y (refuse 9 s)) (refuse 8 s)) e
 
-module _ (i o : System) (f : Option Interior) (log : List Message) (table : List Operation) (e : f ≡ None) where
+module _ (i o : System) (f : Option OpenField) (log : List Message) (table : List Operation) (e : f ≡ None) where
   not_open : (field_of f log table).frame.is_open ≡ false
-  not_open = ap (λ (x : Option Interior). (field_of x log table).frame.is_open) e
+  not_open = ap (λ (x : Option OpenField). (field_of x log table).frame.is_open) e
 
   pub advance_closed : (xs : List ℕ) → advancing i o xs (field_of f log table) ≡ refuse 8 (field_of f log table)
   unfolding advancing

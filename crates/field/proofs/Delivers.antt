@@ -6,19 +6,19 @@ use Rattle.numbers.specs.Numbers.{between}
 use Rattle.rules.specs.declared.message.Message.{Message}
 use Rattle.rules.specs.declared.message.Message.TheVariants.{ClockAnswer, WriteAnswer, ReadAnswer}
 use Rattle.rules.specs.Calls.{in_range, handed_to, receives}
-use Rattle.rules.specs.Ranges.{numbers_fit, operation_fits, state_fits, has_room}
+use Rattle.rules.specs.Ranges.{numbers_fit, operation_fits, state_fits, has_next_clock}
 use Rattle.operation.specs.declared.table.Operation.{Operation}
-use Rattle.field.specs.declared.interior.Interior.{Interior}
+use Rattle.field.specs.declared.open_field.OpenField.{OpenField}
 use Rattle.field.specs.Delivered.{numbered, IsAnswerTo, Deliverable, Reached}
-use Rattle.field.specs.Ranging.{place_of, known_in}
+use Rattle.field.specs.MessageChecks.{place_of, known_in}
 use Rattle.field.specs.Views.{frame_of, state_of}
 use Rattle.field.proofs.Accepting.{accepted}
 
-module _ (i o : System) (f : Interior) (log : List Message) (table : List Operation) (number : ℕ) (d : Deliverable i o f log table number)
+module _ (i o : System) (f : OpenField) (log : List Message) (table : List Operation) (number : ℕ) (d : Deliverable i o f log table number)
     (fits : in_range (numbered log number) (state_of f log table) ≡ true) where
   -- both tests, of the message itself
   tests : (m : Message) → numbered log number ≡ m
-      → (numbers_fit (frame_of f).counts m ≡ true) × (operation_fits (known_in (frame_of f).counts f.begun table) (λ p. has_room (place_of table p)) m ≡ true)
+      → (numbers_fit (frame_of f).counts m ≡ true) × (operation_fits (known_in (frame_of f).counts f.begun table) (λ p. has_next_clock (place_of table p)) m ≡ true)
   tests m e = and_parts (numbers_fit (frame_of f).counts m) _ (subst (λ (x : Message). in_range x (state_of f log table) ≡ true) e fits)
 
   inside : (p : ℕ) → between 1 f.begun p ≡ true → (1 ≤ p) × (p ≤ length table)
@@ -30,10 +30,10 @@ module _ (i o : System) (f : Interior) (log : List Message) (table : List Operat
       (low, omega arith)
 
   -- the operation that an answer names is known
-  known : (p : ℕ) (m : Message) → IsAnswerTo p m → operation_fits (known_in (frame_of f).counts f.begun table) (λ p. has_room (place_of table p)) m ≡ true
+  known : (p : ℕ) (m : Message) → IsAnswerTo p m → operation_fits (known_in (frame_of f).counts f.begun table) (λ p. has_next_clock (place_of table p)) m ≡ true
       → known_in (frame_of f).counts f.begun table p ≡ true
   known p (ClockAnswer k q clock) t h =
-      subst (λ (n : ℕ). known_in (frame_of f).counts f.begun table n ≡ true) t (and_parts (known_in (frame_of f).counts f.begun table q) (has_room (place_of table q)) h).0
+      subst (λ (n : ℕ). known_in (frame_of f).counts f.begun table n ≡ true) t (and_parts (known_in (frame_of f).counts f.begun table q) (has_next_clock (place_of table q)) h).0
   known p (WriteAnswer k q s) t h = subst (λ (n : ℕ). known_in (frame_of f).counts f.begun table n ≡ true) t h
   known p (ReadAnswer j q v x) t h = subst (λ (n : ℕ). known_in (frame_of f).counts f.begun table n ≡ true) t h
   known p m t h = absurd t

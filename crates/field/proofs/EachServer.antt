@@ -6,7 +6,7 @@ use Rattle.std.specs.List.{list_all, zip}
 use Rattle.quorum.specs.Sets.{all_below}
 use Rattle.numbers.specs.declared.time.Time.{Time}
 use Rattle.numbers.specs.Numbers.{last_time}
-use Rattle.field.specs.Sides.{all_stay, all_later}
+use Rattle.field.specs.Servers.{all_stay, all_later}
 
 -- ---- all of them stay
 

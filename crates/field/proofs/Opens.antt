@@ -16,8 +16,8 @@ use Rattle.rules.specs.State.{State, Outcome, outcome, refuse}
 use Rattle.operation.specs.declared.table.Operation.{Operation}
 use Rattle.operation.specs.States.{operation_of}
 use Rattle.rules.specs.declared.message.Message.{Message}
-use Rattle.field.specs.Sides.{shown_as, starts_at, first_inputs, first_outputs}
-use Rattle.field.specs.declared.interior.Interior.{Interior}
+use Rattle.field.specs.Servers.{shown_as, starts_at, first_inputs, first_outputs}
+use Rattle.field.specs.declared.open_field.OpenField.{OpenField}
 use Rattle.field.specs.Opened.{OpeningFits, opened_frame}
 use Rattle.field.specs.Unopened.{unopened}
 use Rattle.field.specs.Views.{inputs_of, outputs_of, frame_of, state_of, field_of}
@@ -98,7 +98,7 @@ starts_outputs ts n m l e = ap (each 8) (λ k j. first_output (outputs_start ts 
 
 -- ---- what is left
 
-opened_is : (log : List Message) (table : List Operation) (g : Interior) (n m k lease drift : ℕ) (clocks : List Time)
+opened_is : (log : List Message) (table : List Operation) (g : OpenField) (n m k lease drift : ℕ) (clocks : List Time)
     → OpeningFits n m k lease drift clocks
     → frame_of g ≡ opened_frame n m k lease drift (length log) (length table)
     → (g.made ≡ 0) × (g.begun ≡ 0)
@@ -122,7 +122,7 @@ opened_is log table g n m k lease drift clocks fits frame zeros ins outs =
 -- ---- the call
 
 -- its tests, over the log and the table themselves
-tests : (i o : System) (k lease drift : ℕ) (clocks : List Time) (f : Option Interior) (log : List Message) (table : List Operation)
+tests : (i o : System) (k lease drift : ℕ) (clocks : List Time) (f : Option OpenField) (log : List Message) (table : List Operation)
     → opening i o k lease drift clocks (field_of f log table)
     ≡ decide (opening_refusal (is_some f) i.count o.count k lease drift clocks (length log) (length table))
     (outcome accepted (opened i.count o.count k lease drift clocks (unopened log (map operation_of table)))) (field_of f log table)
@@ -133,7 +133,7 @@ tests i o k lease drift clocks f log table = over f
         ≡ decide (opening_refusal b i.count o.count k lease drift clocks (length log) (length table)) Y s
     places b Y s = ap (λ (l : ℕ). decide (opening_refusal b i.count o.count k lease drift clocks (length log) l) Y s) (length-map table operation_of)
 
-    over : (f : Option Interior)
+    over : (f : Option OpenField)
         → opening i o k lease drift clocks (field_of f log table)
         ≡ decide (opening_refusal (is_some f) i.count o.count k lease drift clocks (length log) (length table))
         (outcome accepted (opened i.count o.count k lease drift clocks (unopened log (map operation_of table)))) (field_of f log table)
@@ -141,14 +141,14 @@ tests i o k lease drift clocks f log table = over f
     over (Some f) = opening_is i o k lease drift clocks (field_of (Some f) log table) ∙ places true (outcome accepted (opened i.count o.count k lease drift clocks (unopened log (map operation_of table)))) (field_of (Some f) log table)
 
 -- a field that is open is not opened again
-pub open_again : (i o : System) (k lease drift : ℕ) (clocks : List Time) (f : Option Interior) (log : List Message) (table : List Operation)
+pub open_again : (i o : System) (k lease drift : ℕ) (clocks : List Time) (f : Option OpenField) (log : List Message) (table : List Operation)
     → is_some f ≡ true → opening i o k lease drift clocks (field_of f log table) ≡ refuse 1 (field_of f log table)
 open_again i o k lease drift clocks f log table e =
     tests i o k lease drift clocks f log table
     ∙ ap (λ (b : Bool). decide (opening_refusal b i.count o.count k lease drift clocks (length log) (length table))
     (outcome accepted (opened i.count o.count k lease drift clocks (unopened log (map operation_of table)))) (field_of f log table)) e
 
-pub open_refuses : (i o : System) (k lease drift : ℕ) (clocks : List Time) (f : Option Interior) (log : List Message) (table : List Operation) (n m : ℕ) (e : Refusal)
+pub open_refuses : (i o : System) (k lease drift : ℕ) (clocks : List Time) (f : Option OpenField) (log : List Message) (table : List Operation) (n m : ℕ) (e : Refusal)
     → is_some f ≡ false → n ≡ i.count → m ≡ o.count
     → number_of e ≡ opening_refusal false n m k lease drift clocks (length log) (length table)
     → opening i o k lease drift clocks (field_of f log table) ≡ refuse (number_of e) (field_of f log table)
@@ -158,7 +158,7 @@ open_refuses i o k lease drift clocks f log table n m e closed p q r =
     call_refuses e _ _ _ (field_of f log table) (tests i o k lease drift clocks f log table)
     (r ∙ closing ∙ ap (λ (a : ℕ). R a m) p ∙ ap (R i.count) q)
 
-pub opens : (i o : System) (k lease drift : ℕ) (clocks : List Time) (f : Option Interior) (log : List Message) (table : List Operation) (g : Interior) (n m : ℕ)
+pub opens : (i o : System) (k lease drift : ℕ) (clocks : List Time) (f : Option OpenField) (log : List Message) (table : List Operation) (g : OpenField) (n m : ℕ)
     → is_some f ≡ false → n ≡ i.count → m ≡ o.count
     → 0 ≡ opening_refusal false n m k lease drift clocks (length log) (length table)
     → frame_of g ≡ opened_frame n m k lease drift (length log) (length table)

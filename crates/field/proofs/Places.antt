@@ -14,8 +14,8 @@ use Rattle.rules.specs.State.{outcome, post}
 use Rattle.operation.specs.declared.table.Operation as Code
 use Rattle.operation.specs.Alone.{refusal_at, reacted, alone}
 use Rattle.operation.specs.States.{operation_of}
-use Rattle.field.specs.declared.interior.Interior.{Interior}
-use Rattle.field.specs.Ranging.{place_of}
+use Rattle.field.specs.declared.open_field.OpenField.{OpenField}
+use Rattle.field.specs.MessageChecks.{place_of}
 use Rattle.field.specs.Views.{state_of}
 
 pub place_read : (table : List Code.Operation) (p : ℕ) (d : Code.Operation) → 1 ≤ p → p ≤ length table → operation_of (get_or table (p - 1) d) ≡ place_of table p
@@ -48,7 +48,7 @@ reaction_is i o m x r e d =
     let both : reacted (reacts i o m x) ≡ reacted r = sym here ∙ d in
     cc
 
-pub heard : (i o : System) (m : Message) (p : ℕ) (r : Reaction) (f g : Interior) (log log' : List Message) (table : List Code.Operation) (u before after : Code.Operation) (d : Delivery)
+pub heard : (i o : System) (m : Message) (p : ℕ) (r : Reaction) (f g : OpenField) (log log' : List Message) (table : List Code.Operation) (u before after : Code.Operation) (d : Delivery)
     → refusal_at i o (place_of table p) m ≡ 0 → operation_of before ≡ place_of table p → alone i o m (operation_of before) ≡ reacted r
     → operation_of after ≡ r.next → end_of d ≡ r.said → ((t : List Code.Operation) → state_of g log' t ≡ post r.sends (state_of f log t))
     → handed_to i o m p (state_of f log table) ≡ outcome (end_of d) (state_of g log' (set (set table (p - 1) u) (p - 1) after))

@@ -16,7 +16,7 @@ use Rattle.rules.specs.Calls.{quiet}
 use Rattle.rules.specs.Input.{Input, no_ledger, answers_clock, after_write, answers_write, after_renewal, answers_renewal}
 use Rattle.rules.specs.Output.{Output, answers_read, after_answer, acknowledgement, after_invalidation, answers_invalidation}
 use Rattle.rules.specs.State.{no_input, post, with_input, with_output}
-use Rattle.rules.specs.Steps.{StepSaid, made_now, refused, Step, step_says, step, steps, stays, has_room, with_room}
+use Rattle.rules.specs.Steps.{StepSaid, made_now, refused, ServerStep, step_says, step, steps, stays, has_room, with_room}
 use Rattle.input_server.specs.declared.server.InputServer.{InputServer}
 use Rattle.input_server.specs.Epochs.{has_epoch, have_epochs}
 use Rattle.input_server.specs.Steps.{clock_step, write_step, renewal_step}
@@ -26,14 +26,14 @@ use Rattle.operation.specs.States.{operation_of}
 use Rattle.output_server.specs.declared.server.OutputServer.{OutputServer}
 use Rattle.output_server.specs.Steps.{read_step, answer_step, invalidation_step}
 use Rattle.output_server.specs.Views.{output_of}
-use Rattle.field.specs.declared.interior.Interior.{Interior}
+use Rattle.field.specs.declared.open_field.OpenField.{OpenField}
 use Rattle.field.specs.Ready.{Ready}
 use Rattle.field.specs.Views.{inputs_of, outputs_of, frame_of, state_of}
 use lib.Seq.{sets}
 
 -- ---- steps that do not refuse
 
-with_room_lem : {A : Type 0} (a : A) (made : ℕ) (log : List Message) (x : Step A) → made + 9 ≤ length log → with_room a made log x ≡ x
+with_room_lem : {A : Type 0} (a : A) (made : ℕ) (log : List Message) (x : ServerStep A) → made + 9 ≤ length log → with_room a made log x ≡ x
 with_room_lem a made log x h = cond-true (has_room made log) x (stays 32 a log) (le-leb (made + 9) (length log) h)
 
 pub clock_step_lem : (i p : ℕ) (I : Input) (made : ℕ) (log : List Message) → made + 9 ≤ length log
@@ -88,16 +88,16 @@ said_made : (r : Result (Unit {0}) Refusal) (k made : ℕ) → step_says k r ≡
 said_made (Ok u) k made e = ap made_by e
 said_made (Err x) k made e = let z : ◌≡◌ {A = ℕ} 0 1 = cc in absurd (omega arith)
 
-pub passed : {A : Type 0} (x : Step A) (b : A) (new : List Message) (made : ℕ) (log : List Message) (r : Result (Unit {0}) Refusal) (a : A) (after : Log)
+pub passed : {A : Type 0} (x : ServerStep A) (b : A) (new : List Message) (made : ℕ) (log : List Message) (r : Result (Unit {0}) Refusal) (a : A) (after : Log)
     → x ≡ steps b new made log → x ≡ step r a after → Passed b new made log r a after
 passed x b new made log r a after e d =
     let f : step r a after ≡ steps b new made log = sym d ∙ e in
-    let says = ap (λ (y : Step _). y.said) f in
+    let says = ap (λ (y : ServerStep _). y.said) f in
     record {
       ok = said_ok r after.made _ says;
-      server = ap (λ (y : Step _). y.server) f;
+      server = ap (λ (y : ServerStep _). y.server) f;
       made_then = said_made r after.made _ says;
-      log_then = ap (λ (y : Step _). y.log) f;
+      log_then = ap (λ (y : ServerStep _). y.log) f;
     }
 
 -- the server at a place, as the rules speak of it
@@ -109,7 +109,7 @@ replaced : {X Y : Type 0} (f : X → Y) (xs : List X) (i j : ℕ) (x : X) (y : Y
 replaced f xs i j x y p e = map-set f xs j x ∙ ap (λ (k : ℕ). set (map f xs) k (f x)) p ∙ ap (set (map f xs) i) e
 
 -- a server has changed, and nothing is logged
-pub input_taken : (f : Interior) (log : List Message) (t : List Operation) (i j : ℕ) (y : InputServer) (b : Input) → j ≡ i → input_of y ≡ b
+pub input_taken : (f : OpenField) (log : List Message) (t : List Operation) (i j : ℕ) (y : InputServer) (b : Input) → j ≡ i → input_of y ≡ b
     → with_input i b (state_of f log t) ≡ record {
       frame = frame_of f;
       made = f.made;
@@ -130,7 +130,7 @@ input_taken f log t i j y b e is = λ z. record {
 }
 
 -- a write request: no epoch is the last one, so it is taken
-pub write_passed : (f : Interior) (log : List Message) (i p : ℕ) (x : Pair) (value : ℕ) (r : Result (Unit {0}) Refusal) (y : Input) (after : Log)
+pub write_passed : (f : OpenField) (log : List Message) (i p : ℕ) (x : Pair) (value : ℕ) (r : Result (Unit {0}) Refusal) (y : Input) (after : Log)
     → Ready f log → i < 8
     → write_step i p f.counts.outputs.number x.object x.version value (get_or (inputs_of f.inputs) i no_input) f.made log ≡ step r y after
     → Passed (after_write f.counts.outputs.number x.object x.version value (get_or (inputs_of f.inputs) i no_input))
@@ -142,7 +142,7 @@ write_passed f log i p x value r y after ready few does =
     (write_step_lem i p m x.object x.version value (get_or (inputs_of f.inputs) i no_input) f.made log ready.room
     (λ k h. ready.epochs i k few (omega (arith, f.counts.outputs.inside)))) does
 
-module _ (f : Interior) (log : List Message) (t : List Operation) (new : List Message) (r : Result (Unit {0}) Refusal) (after : Log)
+module _ (f : OpenField) (log : List Message) (t : List Operation) (new : List Message) (r : Result (Unit {0}) Refusal) (after : Log)
     (made : ℕ) (l : List Message) (made_is : made ≡ after.made) (log_is : l ≡ after.messages.now) where
   -- the field, where its log alone has changed
   pub logged : {A : Type 0} (a b : A) → Passed b new f.made log r a after

@@ -12,7 +12,7 @@ use Rattle.guarantee.specs.Bounds.{Bounded}
 use Rattle.guarantee.specs.Story.{Call, outcome_of}
 use Rattle.guarantee.proofs.Bounds.{bounds_kept}
 use Rattle.operation.specs.declared.table.Operation.{Operation}
-use Rattle.field.specs.declared.interior.Interior.{Interior}
+use Rattle.field.specs.declared.open_field.OpenField.{OpenField}
 use Rattle.field.specs.Ready.{Ready}
 use Rattle.field.specs.Sound.{InBounds, Sound}
 use Rattle.field.specs.Views.{inputs_of, state_of, field_of}
@@ -20,13 +20,13 @@ use Rattle.field.proofs.Refusing.{not_refused}
 
 -- ---- its numbers
 
-pub record Numbers (f : Interior) : Type 0 where
+pub record Numbers (f : OpenField) : Type 0 where
   pub log_most : f.log_len ≤ 65535
   pub table_most : f.table_len ≤ 1024
   pub begun : f.begun ≤ f.table_len
   pub epochs : (i j : ℕ) → i < 8 → j < 8 → (ledger (get_or (inputs_of f.inputs) i no_input) j).epoch.0 ≤ f.made + 1
 
-numbers_prop : (f : Interior) → IsProp (Numbers f)
+numbers_prop : (f : OpenField) → IsProp (Numbers f)
 numbers_prop f a b = λ k. record {
   log_most = le_prop a.log_most b.log_most k;
   table_most = le_prop a.table_most b.table_most k;
@@ -34,7 +34,7 @@ numbers_prop f a b = λ k. record {
   epochs = Π_prop (λ i. Π_prop (λ j. Π_prop (λ _. Π_prop (λ _. le_prop)))) a.epochs b.epochs k;
 }
 
-pub numbers_of : (f : Interior) → Sound (Some f) → Numbers f
+pub numbers_of : (f : OpenField) → Sound (Some f) → Numbers f
 numbers_of f s = ∥∥₁_elim s (numbers_prop f) (λ d.
     record {
       log_most = d.log_length.1;
@@ -43,7 +43,7 @@ numbers_of f s = ∥∥₁_elim s (numbers_prop f) (λ d.
       epochs = λ i j h l. ((d.each_input i h).epoch j l).1;
     })
 
-pub ready_of : (f : Interior) (log : List Message) → Numbers f → length log ≡ f.log_len → f.made + 9 ≤ length log → Ready f log
+pub ready_of : (f : OpenField) (log : List Message) → Numbers f → length log ≡ f.log_len → f.made + 9 ≤ length log → Ready f log
 ready_of f log n e h = record {
   few = omega (arith, n.begun, n.table_most);
   room = h;
@@ -52,7 +52,7 @@ ready_of f log n e h = record {
 
 -- ---- log and table do not matter to it
 
-rebase : (f : Interior) (a b : List Message) (t u : List Operation) → Bounded (state_of f a t) → Bounded (state_of f b u)
+rebase : (f : OpenField) (a b : List Message) (t u : List Operation) → Bounded (state_of f a t) → Bounded (state_of f b u)
 rebase f a b t u d = record {
   n = d.n;
   m = d.m;
@@ -72,17 +72,17 @@ rebase f a b t u d = record {
 -- ---- every call keeps it
 
 -- the bounds of a field that is open, from its invariant and back
-bounded_of : (f : Option Interior) (log : List Message) (table : List Operation) → InBounds f
+bounded_of : (f : Option OpenField) (log : List Message) (table : List Operation) → InBounds f
     → (field_of f log table).frame.is_open ≡ true → Bounded (field_of f log table)
 bounded_of None log table b e = not_refused (sym e)
 bounded_of (Some f) log table b e = rebase f [] log [] table b
 
-in_bounds : (f : Option Interior) (log : List Message) (table : List Operation)
+in_bounds : (f : Option OpenField) (log : List Message) (table : List Operation)
     → ((field_of f log table).frame.is_open ≡ true → Bounded (field_of f log table)) → InBounds f
 in_bounds None log table h = tt
 in_bounds (Some f) log table h = rebase f log [] table [] (h refl)
 
-pub sound_after : (i o : System) → Lawful i → Lawful o → (c : Call) (f g : Option Interior) (log log' : List Message) (table table' : List Operation) (r : Said)
+pub sound_after : (i o : System) → Lawful i → Lawful o → (c : Call) (f g : Option OpenField) (log log' : List Message) (table table' : List Operation) (r : Said)
     → Sound f → outcome_of i o c (field_of f log table) ≡ outcome r (field_of g log' table') → Sound g
 sound_after i o li lo c f g log log' table table' r s e = ∥∥₁_map s (λ b.
     in_bounds g log' table'

@@ -6,8 +6,8 @@ use Rattle.rules.specs.declared.message.Message.TheVariants.{ClockAnswer, WriteA
 use Rattle.rules.specs.Calls.{no_message}
 use Rattle.operation.specs.declared.table.Operation.{Operation}
 use Rattle.operation.specs.Alone.{refusal_at}
-use Rattle.field.specs.declared.interior.Interior.{Interior}
-use Rattle.field.specs.Ranging.{place_of}
+use Rattle.field.specs.declared.open_field.OpenField.{OpenField}
+use Rattle.field.specs.MessageChecks.{place_of}
 use Rattle.field.specs.Ready.{Ready}
 
 -- message number k of a log
@@ -22,7 +22,7 @@ IsAnswerTo p (ReadAnswer j q v x) = q ≡ p
 IsAnswerTo p m = ⊥
 
 -- what the tests of a delivery have found before it looks at its message
-pub record Deliverable (inputs outputs : System) (f : Interior) (log : List Message) (table : List Operation) (number : ℕ) : Type 0 where
+pub record Deliverable (inputs outputs : System) (f : OpenField) (log : List Message) (table : List Operation) (number : ℕ) : Type 0 where
   pub ready : Ready f log
   pub inputs_as : inputs.count ≡ f.counts.inputs.number
   pub outputs_as : outputs.count ≡ f.counts.outputs.number

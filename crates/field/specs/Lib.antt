@@ -1,11 +1,11 @@
 pub mod Checked
 pub mod Delivered
 pub mod Guaranteed
-pub mod Looks
+pub mod Getters
 pub mod Opened
-pub mod Ranging
+pub mod MessageChecks
 pub mod Ready
-pub mod Sides
+pub mod Servers
 pub mod Sound
 pub mod Unopened
 pub mod Views

@@ -4,10 +4,10 @@ use Rattle.numbers.specs.Numbers.{last_epoch, last_operation}
 use Rattle.rules.specs.declared.message.Message.{Message}
 use Rattle.rules.specs.Input.{ledger}
 use Rattle.rules.specs.State.{no_input}
-use Rattle.field.specs.declared.interior.Interior.{Interior}
+use Rattle.field.specs.declared.open_field.OpenField.{OpenField}
 use Rattle.field.specs.Views.{inputs_of}
 
-pub record Ready (f : Interior) (log : List Message) : Type 0 where
+pub record Ready (f : OpenField) (log : List Message) : Type 0 where
   -- nine places of the log are free
   pub room : f.made + 9 ≤ length log
   -- every operation's number is in its range

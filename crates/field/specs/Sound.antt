@@ -1,14 +1,14 @@
 -- The invariant of a field.
 use Rattle.std.specs.Prelude.{[], Some, None, Option}
 use Rattle.guarantee.specs.Bounds.{Bounded}
-use Rattle.field.specs.declared.interior.Interior.{Interior}
+use Rattle.field.specs.declared.open_field.OpenField.{OpenField}
 use Rattle.field.specs.Views.{state_of}
 
 -- the numbers of an open field are within their bounds, whatever log and table it is lent
-abbrev pub InBounds : Option Interior → Type 0
+abbrev pub InBounds : Option OpenField → Type 0
 InBounds None = Unit {0}
 InBounds (Some f) = Bounded (state_of f [] [])
 
 -- the same, as a fact that has one proof
-abbrev pub Sound : Option Interior → Type 0
+abbrev pub Sound : Option OpenField → Type 0
 Sound f = ∥ InBounds f ∥₁

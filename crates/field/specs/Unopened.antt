@@ -3,7 +3,7 @@ use Rattle.std.specs.Prelude.{false, List, []}
 use Rattle.rules.specs.declared.message.Message.{Message}
 use Rattle.rules.specs.Operation.{Operation}
 use Rattle.rules.specs.State.{State}
-use Rattle.field.specs.Sides.{first_inputs, first_outputs}
+use Rattle.field.specs.Servers.{first_inputs, first_outputs}
 
 -- every number is 0, and every server in its first state
 abbrev pub unopened : List Message → List Operation → State

@@ -11,7 +11,7 @@ use Rattle.output_server.specs.Views.{output_of}
 use Rattle.rules.specs.Counts.{counts_of}
 use Rattle.rules.specs.Input.{Input}
 use Rattle.rules.specs.Output.{Output}
-use Rattle.field.specs.declared.interior.Interior.{Interior}
+use Rattle.field.specs.declared.open_field.OpenField.{OpenField}
 use Rattle.field.specs.Unopened.{unopened}
 
 abbrev pub inputs_of : List InputServer → List Input
@@ -20,7 +20,7 @@ inputs_of servers = map input_of servers
 abbrev pub outputs_of : List OutputServer → List Output
 outputs_of servers = map output_of servers
 
-abbrev pub frame_of : Interior → Frame
+abbrev pub frame_of : OpenField → Frame
 frame_of f = record {
   is_open = true;
   counts = counts_of f.counts;
@@ -30,7 +30,7 @@ frame_of f = record {
   table_length = f.table_len;
 }
 
-abbrev pub state_of : Interior → List Message → List Operation → State
+abbrev pub state_of : OpenField → List Message → List Operation → State
 state_of f log table = record {
   frame = frame_of f;
   made = f.made;
@@ -41,6 +41,6 @@ state_of f log table = record {
   table = map operation_of table;
 }
 
-abbrev pub field_of : Option Interior → List Message → List Operation → State
+abbrev pub field_of : Option OpenField → List Message → List Operation → State
 field_of None log table = unopened log (map operation_of table)
 field_of (Some f) log table = state_of f log table

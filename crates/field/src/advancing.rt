@@ -7,14 +7,14 @@ ghost use Rattle.checks.specs.Refused.{refusal_said};
 ghost use Rattle.field.specs.Checked.{advance_check};
 ghost use Rattle.field.specs.Views.{state_of};
 
-use crate::interior::Interior;
-use crate::sides::{all_stay, tick_all};
+use crate::open_field::OpenField;
+use crate::servers::{all_stay, tick_all};
 use checks::keeps_drift;
 use operation::Operation;
 use quorum::{QuorumSystem, Refusal, Systems};
 use rules::Message;
 
-impl Interior {
+impl OpenField {
     // Every clock moves by its increment, the input servers first.
     pub(crate) fn advance<I: QuorumSystem, O: QuorumSystem>(
         &mut self,

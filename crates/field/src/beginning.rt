@@ -10,13 +10,13 @@ ghost use Rattle.checks.specs.Refused.{refusal_said};
 ghost use Rattle.field.specs.Sound.{Sound};
 ghost use Rattle.field.specs.Views.{state_of};
 
-use crate::interior::Interior;
+use crate::open_field::OpenField;
 use crate::logging::{ClockQuestions, ReadRequests};
 use operation::{AskingWrite, Operation, Read};
 use quorum::{QuorumSystem, Refusal, Systems};
 use rules::{Message, has_room};
 
-impl Interior {
+impl OpenField {
     // The next operation is an asking write, and a clock question goes to every input server.
     #[tactic(auto, using(crate::proofs::Begins::beginnable, crate::proofs::Begins::write_refuses))]
     pub(crate) fn begin_write<I: QuorumSystem, O: QuorumSystem>(

@@ -15,7 +15,7 @@ ghost use Rattle.field.specs.Guaranteed.{Guaranteed};
 ghost use Rattle.field.specs.Views.{field_of};
 
 use crate::field::Field;
-use crate::interior::Interior;
+use crate::open_field::OpenField;
 use checks::{Opening, check_opening};
 use numbers::Time;
 use operation::Operation;
@@ -33,17 +33,17 @@ impl Field {
         opening: Opening,
         clocks: &[Time],
     ) -> Result<(), Refusal>
-        ensures does { opening_of (I.QuorumSystem.meaning systems.now.inputs) (O.QuorumSystem.meaning systems.now.outputs) opening.objects opening.lease opening.drift clocks.now (field_of self.old.interior log.now table.now) ≡ outcome (acceptance result) (field_of self.new.interior log.now table.now) }
+        ensures does { opening_of (I.QuorumSystem.meaning systems.now.inputs) (O.QuorumSystem.meaning systems.now.outputs) opening.objects opening.lease opening.drift clocks.now (field_of self.old.inside log.now table.now) ≡ outcome (acceptance result) (field_of self.new.inside log.now table.now) }
         ensures same { is_ok result ≡ false → self.new ≡ self.old }
-        ensures guaranteed { Guaranteed (I.QuorumSystem.meaning systems.now.inputs) (O.QuorumSystem.meaning systems.now.outputs) (to_open opening.objects opening.lease opening.drift clocks.now) (field_of self.old.interior log.now table.now) (acceptance result) (field_of self.new.interior log.now table.now) }
+        ensures guaranteed { Guaranteed (I.QuorumSystem.meaning systems.now.inputs) (O.QuorumSystem.meaning systems.now.outputs) (to_open opening.objects opening.lease opening.drift clocks.now) (field_of self.old.inside log.now table.now) (acceptance result) (field_of self.new.inside log.now table.now) }
     {
-        if self.interior.is_some() {
+        if self.inside.is_some() {
             return Err(Refusal::AlreadyOpen);
         }
         let (n, m) = (systems.inputs.count(), systems.outputs.count());
         check_opening(n, m, opening, clocks, log.len(), table.len())?;
-        let interior = Interior::new(n, m, opening, clocks, log.len(), table.len());
-        self.interior = Some(interior);
+        let inside = OpenField::new(n, m, opening, clocks, log.len(), table.len());
+        self.inside = Some(inside);
         Ok(())
     }
 
@@ -56,12 +56,12 @@ impl Field {
         systems: &Systems<I, O>,
         increments: &[u64],
     ) -> Result<(), Refusal>
-        ensures does { advancing (I.QuorumSystem.meaning systems.now.inputs) (O.QuorumSystem.meaning systems.now.outputs) increments.now (field_of self.old.interior log.now table.now) ≡ outcome (acceptance result) (field_of self.new.interior log.now table.now) }
+        ensures does { advancing (I.QuorumSystem.meaning systems.now.inputs) (O.QuorumSystem.meaning systems.now.outputs) increments.now (field_of self.old.inside log.now table.now) ≡ outcome (acceptance result) (field_of self.new.inside log.now table.now) }
         ensures same { is_ok result ≡ false → self.new ≡ self.old }
-        ensures guaranteed { Guaranteed (I.QuorumSystem.meaning systems.now.inputs) (O.QuorumSystem.meaning systems.now.outputs) (to_advance increments.now) (field_of self.old.interior log.now table.now) (acceptance result) (field_of self.new.interior log.now table.now) }
+        ensures guaranteed { Guaranteed (I.QuorumSystem.meaning systems.now.inputs) (O.QuorumSystem.meaning systems.now.outputs) (to_advance increments.now) (field_of self.old.inside log.now table.now) (acceptance result) (field_of self.new.inside log.now table.now) }
     {
-        let interior = self.interior.as_mut().ok_or(Refusal::NotOpen)?;
-        interior.advance(log, table, systems, increments)
+        let inside = self.inside.as_mut().ok_or(Refusal::NotOpen)?;
+        inside.advance(log, table, systems, increments)
     }
 
     // Begins a write of a value to an object, and gives the operation's number.
@@ -74,12 +74,12 @@ impl Field {
         object: u64,
         value: u64,
     ) -> Result<u16, Refusal>
-        ensures does { beginning_write (I.QuorumSystem.meaning systems.now.inputs) (O.QuorumSystem.meaning systems.now.outputs) object value (field_of self.old.interior log.old table.old) ≡ outcome (beginning_says result) (field_of self.new.interior log.new table.new) }
+        ensures does { beginning_write (I.QuorumSystem.meaning systems.now.inputs) (O.QuorumSystem.meaning systems.now.outputs) object value (field_of self.old.inside log.old table.old) ≡ outcome (beginning_says result) (field_of self.new.inside log.new table.new) }
         ensures same { is_ok result ≡ false → (self.new ≡ self.old) × (log.new ≡ log.old) × (table.new ≡ table.old) }
-        ensures guaranteed { Guaranteed (I.QuorumSystem.meaning systems.now.inputs) (O.QuorumSystem.meaning systems.now.outputs) (to_write object value) (field_of self.old.interior log.old table.old) (beginning_says result) (field_of self.new.interior log.new table.new) }
+        ensures guaranteed { Guaranteed (I.QuorumSystem.meaning systems.now.inputs) (O.QuorumSystem.meaning systems.now.outputs) (to_write object value) (field_of self.old.inside log.old table.old) (beginning_says result) (field_of self.new.inside log.new table.new) }
     {
-        let interior = self.interior.as_mut().ok_or(Refusal::NotOpen)?;
-        interior.begin_write(log, table, systems, object, value)
+        let inside = self.inside.as_mut().ok_or(Refusal::NotOpen)?;
+        inside.begin_write(log, table, systems, object, value)
     }
 
     // Begins a read of an object, and gives the operation's number.
@@ -91,12 +91,12 @@ impl Field {
         systems: &Systems<I, O>,
         object: u64,
     ) -> Result<u16, Refusal>
-        ensures does { beginning_read (I.QuorumSystem.meaning systems.now.inputs) (O.QuorumSystem.meaning systems.now.outputs) object (field_of self.old.interior log.old table.old) ≡ outcome (beginning_says result) (field_of self.new.interior log.new table.new) }
+        ensures does { beginning_read (I.QuorumSystem.meaning systems.now.inputs) (O.QuorumSystem.meaning systems.now.outputs) object (field_of self.old.inside log.old table.old) ≡ outcome (beginning_says result) (field_of self.new.inside log.new table.new) }
         ensures same { is_ok result ≡ false → (self.new ≡ self.old) × (log.new ≡ log.old) × (table.new ≡ table.old) }
-        ensures guaranteed { Guaranteed (I.QuorumSystem.meaning systems.now.inputs) (O.QuorumSystem.meaning systems.now.outputs) (to_read object) (field_of self.old.interior log.old table.old) (beginning_says result) (field_of self.new.interior log.new table.new) }
+        ensures guaranteed { Guaranteed (I.QuorumSystem.meaning systems.now.inputs) (O.QuorumSystem.meaning systems.now.outputs) (to_read object) (field_of self.old.inside log.old table.old) (beginning_says result) (field_of self.new.inside log.new table.new) }
     {
-        let interior = self.interior.as_mut().ok_or(Refusal::NotOpen)?;
-        interior.begin_read(log, table, systems, object)
+        let inside = self.inside.as_mut().ok_or(Refusal::NotOpen)?;
+        inside.begin_read(log, table, systems, object)
     }
 
     // Delivers the message with that number, and says whether an operation ended with it.
@@ -108,11 +108,11 @@ impl Field {
         systems: &Systems<I, O>,
         number: usize,
     ) -> Result<Delivery, Refusal>
-        ensures does { delivering (I.QuorumSystem.meaning systems.now.inputs) (O.QuorumSystem.meaning systems.now.outputs) number (field_of self.old.interior log.old table.old) ≡ outcome (delivery_says result) (field_of self.new.interior log.new table.new) }
+        ensures does { delivering (I.QuorumSystem.meaning systems.now.inputs) (O.QuorumSystem.meaning systems.now.outputs) number (field_of self.old.inside log.old table.old) ≡ outcome (delivery_says result) (field_of self.new.inside log.new table.new) }
         ensures same { is_ok result ≡ false → (self.new ≡ self.old) × (log.new ≡ log.old) × (table.new ≡ table.old) }
-        ensures guaranteed { Guaranteed (I.QuorumSystem.meaning systems.now.inputs) (O.QuorumSystem.meaning systems.now.outputs) (to_deliver number) (field_of self.old.interior log.old table.old) (delivery_says result) (field_of self.new.interior log.new table.new) }
+        ensures guaranteed { Guaranteed (I.QuorumSystem.meaning systems.now.inputs) (O.QuorumSystem.meaning systems.now.outputs) (to_deliver number) (field_of self.old.inside log.old table.old) (delivery_says result) (field_of self.new.inside log.new table.new) }
     {
-        let interior = self.interior.as_mut().ok_or(Refusal::NotOpen)?;
-        interior.deliver(log, table, systems, number)
+        let inside = self.inside.as_mut().ok_or(Refusal::NotOpen)?;
+        inside.deliver(log, table, systems, number)
     }
 }

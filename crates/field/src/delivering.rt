@@ -9,12 +9,12 @@ ghost use Rattle.checks.specs.Refused.{refusal_said};
 ghost use Rattle.field.specs.Sound.{Sound};
 ghost use Rattle.field.specs.Views.{state_of};
 
-use crate::interior::Interior;
+use crate::open_field::OpenField;
 use operation::Operation;
 use quorum::{QuorumSystem, Refusal, Systems};
 use rules::{Delivery, Message, Pair, has_room};
 
-impl Interior {
+impl OpenField {
     // Tests the delivery, and then hands the message on.
     #[tactic(auto, using(crate::proofs::Calling::delivery_refuses))]
     pub(crate) fn deliver<I: QuorumSystem, O: QuorumSystem>(

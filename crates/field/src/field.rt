@@ -1,12 +1,12 @@
 ghost use Rattle.field.specs.Sound.{Sound};
 
-use crate::interior::Interior;
+use crate::open_field::OpenField;
 
 // A field: once it is open, its servers, and how many messages were made and operations begun. The log
 // of messages and the table of operations lie with the caller.
 #[derive(Drop)]
 pub struct Field {
-    pub(crate) interior: Option<Interior>,
+    pub(crate) inside: Option<OpenField>,
     // all its numbers are in their ranges
-    ghost sound: { Sound interior },
+    ghost sound: { Sound inside },
 }

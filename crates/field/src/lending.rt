@@ -3,12 +3,12 @@ ghost use Rattle.std.specs.Prelude.{◌≡◌};
 ghost use Rattle.rules.specs.Calls.{as_opened};
 ghost use Rattle.field.specs.Views.{state_of};
 
-use crate::interior::Interior;
+use crate::open_field::OpenField;
 use operation::Operation;
 use quorum::{QuorumSystem, Systems};
 use rules::Message;
 
-impl Interior {
+impl OpenField {
     // Whether log, table and systems are those of the opening, by their lengths and counts.
     pub(crate) fn is_as_opened<I: QuorumSystem, O: QuorumSystem>(
         &self,

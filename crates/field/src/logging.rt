@@ -8,7 +8,7 @@ ghost use Rattle.rules.specs.Lists.{each};
 ghost use Rattle.rules.specs.State.{post};
 ghost use Rattle.field.specs.Views.{state_of};
 
-use crate::interior::Interior;
+use crate::open_field::OpenField;
 use numbers::ServerCount;
 use operation::SendingWrite;
 use rules::{Log, Message};
@@ -71,7 +71,7 @@ impl Requests for SendingWrite {
     }
 }
 
-impl Interior {
+impl OpenField {
     // One to each server below the count, rising.
     pub(crate) fn log_all<R: Requests>(
         &mut self,

@@ -15,9 +15,9 @@ use rules::Message;
 impl Field {
     // A field that is not yet open. It has no servers, and refuses every call but opening.
     pub fn new() -> Field
-        ensures { (log : List AnyMessage) (t : List Place) → field_of result.interior log t ≡ unopened log (map operation_of t) }
+        ensures { (log : List AnyMessage) (t : List Place) → field_of result.inside log t ≡ unopened log (map operation_of t) }
     {
-        Field { interior: None }
+        Field { inside: None }
     }
 }
 

@@ -1,7 +1,7 @@
 // Messages, and ends of operations, in short.
 use numbers::{Epoch, Time, Version};
 use quorum::MemberSet;
-use rules::{Delivery, Message, Pair, Pairs, Parts};
+use rules::{Delivery, Message, Pair, Pairs, Parts, Renewal, Renewed};
 
 /// An operation asks an input server for its clock.
 pub fn clock_question(operation: u16, input: u8) -> Message {
@@ -64,13 +64,7 @@ pub fn read_answer(output: u8, operation: u16, version: Version, value: u64) -> 
 
 /// An output server asks an input server for these parts, at that time in microseconds.
 pub fn renewal_request(output: u8, input: u8, parts: Parts, object: u8, stamp: u64) -> Message {
-    Message::RenewalRequest {
-        output,
-        input,
-        parts,
-        object,
-        stamp: Time(stamp),
-    }
+    Message::RenewalRequest { output, input, renewal: Renewal { parts, object, stamp: Time(stamp) } }
 }
 
 /// What a renewal answer carries beside its ends and its object.
@@ -119,18 +113,7 @@ impl Renewal {
 
     /// The message from an input server to an output server, about an object.
     pub fn answer(self, input: u8, output: u8, object: u8) -> Message {
-        Message::RenewalAnswer {
-            input,
-            output,
-            parts: self.parts,
-            object,
-            version: self.version,
-            value: self.value,
-            epoch: Epoch(self.epoch),
-            stamp: Time(self.stamp),
-            length: self.length,
-            list: self.list,
-        }
+        Message::RenewalAnswer { input, output, renewed: Renewed { renewal: Renewal { parts: self.parts, object, stamp: Time(self.stamp) }, version: self.version, value: self.value, epoch: Epoch(self.epoch), length: self.length, list: self.list } }
     }
 }
 

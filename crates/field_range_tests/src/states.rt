@@ -7,7 +7,7 @@ use field_bench::messages::{
 };
 use field_bench::{Place, expect_same, with_a_write};
 use numbers::Version;
-use operation::{AskingStep, AskingWrite, Operation, Read, SendingWrite, Step};
+use operation::{AskingProgress, AskingWrite, Operation, Read, SendingWrite, Progress};
 use quorum::{Majority, ReadOneWriteAll, Refusal, Systems};
 use rules::{Pairs, Parts};
 use std::alloc::Global;
@@ -25,8 +25,8 @@ fn asking(operation: u16, object: u8, input: u8) -> Result<Operation, Refusal> {
     };
     let write = AskingWrite::new(operation, object, 7);
     match write.answer(&clock_answer(input, operation, 1), &systems) {
-        Ok(AskingStep::Asking(write)) => Ok(Operation::Asking(write)),
-        Ok(AskingStep::Sending(write)) => Ok(Operation::Sending(write)),
+        Ok(AskingProgress::Asking(write)) => Ok(Operation::Asking(write)),
+        Ok(AskingProgress::Sending(write)) => Ok(Operation::Sending(write)),
         Err((refusal, _)) => Err(refusal),
     }
 }
@@ -42,8 +42,8 @@ fn wide() -> Result<Systems<ReadOneWriteAll, ReadOneWriteAll>, Refusal> {
 fn with_version(operation: u16, object: u8) -> Result<SendingWrite, Refusal> {
     let write = AskingWrite::new(operation, object, 7);
     match write.answer(&clock_answer(0, operation, 1), &wide()?) {
-        Ok(AskingStep::Sending(write)) => Ok(write),
-        Ok(AskingStep::Asking(_)) => Err(Refusal::OutOfRange),
+        Ok(AskingProgress::Sending(write)) => Ok(write),
+        Ok(AskingProgress::Asking(_)) => Err(Refusal::OutOfRange),
         Err((refusal, _)) => Err(refusal),
     }
 }
@@ -52,8 +52,8 @@ fn with_version(operation: u16, object: u8) -> Result<SendingWrite, Refusal> {
 fn sending(operation: u16, object: u8, input: u8, named: u64) -> Result<Operation, Refusal> {
     let write = with_version(operation, object)?;
     match write.answer(&write_answer(input, operation, named), &wide()?) {
-        Ok(Step::On(write)) => Ok(Operation::Sending(write)),
-        Ok(Step::Ended(_)) => Ok(Operation::Ended),
+        Ok(Progress::On(write)) => Ok(Operation::Sending(write)),
+        Ok(Progress::Ended(_)) => Ok(Operation::Ended),
         Err((refusal, _)) => Err(refusal),
     }
 }
@@ -66,8 +66,8 @@ fn reading(operation: u16, object: u8, output: u8) -> Result<Operation, Refusal>
     };
     let read = Read::new(operation, object);
     match read.answer(&read_answer(output, operation, FIRST, 5), &systems) {
-        Ok(Step::On(read)) => Ok(Operation::Reading(read)),
-        Ok(Step::Ended(_)) => Ok(Operation::Ended),
+        Ok(Progress::On(read)) => Ok(Operation::Reading(read)),
+        Ok(Progress::Ended(_)) => Ok(Operation::Ended),
         Err((refusal, _)) => Err(refusal),
     }
 }

@@ -15,7 +15,7 @@ use Rattle.rules.specs.Output.{Output, no_link, first_output}
 use Rattle.rules.specs.State.{Frame, State, no_input, no_output, input_at, output_at, post, with_input, with_output}
 use Rattle.guarantee.specs.Bounds.{IsBetween, IsVersion, ArePairs, NamesOnce, InputBounds, OutputBounds, Bounded, BoundsKept, EpochsFit}
 use Rattle.guarantee.proofs.ServerSteps.{more_made, later_bounds, later_output_bounds}
-use Rattle.guarantee.proofs.Ways.{Opens, Found, Nine, Short, Stays, Deliveries, Advanced, advances, call_ways}
+use Rattle.guarantee.proofs.CallCases.{Opens, Found, Nine, Short, Stays, Deliveries, Advanced, advances, call_ways}
 use Rattle.guarantee.proofs.Words.{set_from, each_long, each_at}
 
 -- ---- the first state
@@ -34,13 +34,13 @@ pub first_bounds : (lease made : ℕ) (t : Time) → t.0 ≤ last_time → Input
 first_bounds lease made t h = record {
   objects = refl;
   ledgers = refl;
-  acked = λ j l. ap (λ (k : Ledger). length k.acked) (same_at 8 j _ no_ledger l);
+  last_acknowledged = λ j l. ap (λ (k : Ledger). length k.last_acknowledged) (same_at 8 j _ no_ledger l);
   clock = h;
   highest = (omega arith, omega arith);
-  version = λ o l. subst (λ (k : Held). IsVersion k.version) (sym (same_at 16 o (record { version = starting; value = 0; given = none }) no_held l)) (omega arith, omega arith);
+  version = λ o l. subst (λ (k : Held). IsVersion k.version) (sym (same_at 16 o (record { version = starting; value = 0; last_read = none }) no_held l)) (omega arith, omega arith);
   epoch = λ j l. subst (λ (k : Ledger). IsBetween 1 (made + 1) k.epoch.0)
-      (sym (same_at 8 j (record { acked = replicate 16 none; epoch = record { 0 = 1 }; until = record { 0 = 0 } }) no_ledger l)) (omega arith, omega arith);
-  until = λ j. same_from (λ (k : Ledger). k.until.0 ≤ t.0 + lease) 8 j _ no_ledger (omega arith) (omega arith);
+      (sym (same_at 8 j (record { last_acknowledged = replicate 16 none; epoch = record { 0 = 1 }; lease_end = record { 0 = 0 } }) no_ledger l)) (omega arith, omega arith);
+  lease_end = λ j. same_from (λ (k : Ledger). k.lease_end.0 ≤ t.0 + lease) 8 j _ no_ledger (omega arith) (omega arith);
   chains = record {
     places = refl;
     room = omega arith;
@@ -55,7 +55,7 @@ first_output_bounds t h = record {
   links = refl;
   copies = λ i l. ap (λ (k : Link). length k.copies) (same_at 8 i _ no_link l);
   clock = h;
-  until = λ i. same_from (λ (k : Link). k.until.0 ≤ last_time + longest) 8 i _ no_link (omega arith) (omega arith);
+  lease_end = λ i. same_from (λ (k : Link). k.lease_end.0 ≤ last_time + longest) 8 i _ no_link (omega arith) (omega arith);
 }
 
 clock_fits : (ts : List Time) → clocks_fit ts ≡ true → (i : ℕ) → (get_or ts i (record { 0 = 0 })).0 ≤ last_time

@@ -16,10 +16,10 @@ use Rattle.rules.specs.State.{State, no_input, no_output, input_at, output_at, p
 use Rattle.guarantee.specs.Bounds.{Bounded}
 use Rattle.guarantee.specs.Laws.{AfterCalls, RefusalsAlterNothing, OperationsStay, EndedStaysEnded, MessagesStay, LoggedStaysLogged, InputRises, OutputRises, ServersRise, NothingFalls, LeasesStand, OnlyOthersAreTold, AllOthersAreTold, WriteIsAnswered, AnswerNamesShutOut, NamedIsShutOut, QueueingLeavesOthers, AcknowledgingLeavesOthers}
 use Rattle.guarantee.specs.Story.{Has}
-use Rattle.guarantee.proofs.InputMoves.{names3_below}
+use Rattle.guarantee.proofs.InputMoves.{names_below_write}
 use Rattle.guarantee.proofs.ServerSteps.{changed, input_same, later_rises, output_same, later_output_rises, queues_leaves, acks_leaves}
 use Rattle.guarantee.proofs.Sets.{has-set_of}
-use Rattle.guarantee.proofs.Ways.{InputStep, OutputStep, Reacts, NotRefused, Advanced, advances, call_ways}
+use Rattle.guarantee.proofs.CallCases.{InputStep, OutputStep, Reacts, NotRefused, Advanced, advances, call_ways}
 use Rattle.guarantee.proofs.Words.{set_from, In, All, Any, any_old, any_new, any_each}
 
 -- ---- refusals
@@ -186,10 +186,10 @@ nothing_falls = after_calls ServersRise (λ s. record {
 
 -- no lease of I is longer than that of J
 abbrev Longer : Input → Input → Type 0
-Longer I J = (j : ℕ) → (ledger I j).until.0 ≤ (ledger J j).until.0
+Longer I J = (j : ℕ) → (ledger I j).lease_end.0 ≤ (ledger J j).lease_end.0
 
 pub leases_stand : LeasesStand
-leases_stand = after_calls (λ s t. Bounded s → (i j : ℕ) → (ledger (input_at s i) j).until.0 ≤ (ledger (input_at t i) j).until.0) (λ s. record {
+leases_stand = after_calls (λ s t. Bounded s → (i j : ℕ) → (ledger (input_at s i) j).lease_end.0 ≤ (ledger (input_at t i) j).lease_end.0) (λ s. record {
   still = λ _ i. same (input_at s i);
   advances = λ increments t r _ i. elim (r.input i) [
     | inl e ↦ subst (λ (I : Input). Longer (input_at s i) I) (sym e) (same (input_at s i))
@@ -240,7 +240,7 @@ Told I i m o (InvalidationAnswer j k l) = Unit {0}
 
 pub only_others_are_told : OnlyOthersAreTold
 only_others_are_told I i p m o k j q v h = all_has (Told I i m o) (answers_write i p m o I) (Invalidation k j q v)
-    (names3_below (Told I i m o) i p m o I (λ b l e. (refl, l, refl, refl, e)) tt) h
+    (names_below_write (Told I i m o) i p m o I (λ b l e. (refl, l, refl, refl, e)) tt) h
 
 pub all_others_are_told : AllOthersAreTold
 all_others_are_told I i p m o j l h = in_has (answers_write i p m o I) x
@@ -280,7 +280,7 @@ write_is_answered I i p m o = (
 
 pub answer_names_shut_out : AnswerNamesShutOut
 answer_names_shut_out I i p m o k q t h = all_has (Named I i p m o) (answers_write i p m o I) (WriteAnswer k q t)
-    (names3_below (Named I i p m o) i p m o I (λ b l e. tt) (
+    (names_below_write (Named I i p m o) i p m o I (λ b l e. tt) (
       refl,
       refl,
       λ j l. named_is_shut_out I m o j l,

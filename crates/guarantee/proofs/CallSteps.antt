@@ -11,14 +11,14 @@ use Rattle.rules.specs.Input.{Input, later_input}
 use Rattle.numbers.specs.Numbers.{keeps_pair}
 use Rattle.rules.specs.Operation.{Operation, unused, asking, reading, first_asking, first_reading, clock_questions, read_requests}
 use Rattle.rules.specs.Output.{Output, later_output}
-use Rattle.rules.specs.Ranges.{numbers_fit, operation_fits, has_room}
+use Rattle.rules.specs.Ranges.{numbers_fit, operation_fits, has_next_clock}
 use Rattle.rules.specs.Said.{accepted, began}
 use Rattle.rules.specs.State.{Frame, State, Outcome, outcome, refuse, no_input, no_output, input_at, output_at, post}
 use Rattle.guarantee.specs.Story.{Call, to_open, to_advance, to_write, to_read, to_deliver, outcome_of}
-use Rattle.guarantee.proofs.Bridge.{params_of, act_of, says_of, news_of, Framed, Accepted, logged, none_logged, in_sent, receives_accepted}
+use Rattle.guarantee.proofs.CallEffects.{params_of, act_of, says_of, news_of, Framed, Accepted, logged, none_logged, in_sent, receives_accepted}
 use Rattle.guarantee.proofs.Kept.{Small, May}
 use Rattle.guarantee.proofs.Words.{at, at_same, at_miss, set_at, each_nine}
-use Rattle.guarantee.proofs.World.{Params, Act, writes, reads, run, begins, world_of, world_path, sent_post, op_enter}
+use Rattle.guarantee.proofs.PlainState.{Params, Act, writes, reads, run, begins, plain_of, plain_path, sent_post, op_enter}
 
 -- a refusal leaves the state as it was
 abbrev pub Refuses : State → Outcome → Type 0
@@ -159,15 +159,15 @@ module _ (inputs outputs : System) (s : State) (f : Framed s) (small : Small (pa
           let p = or_parts (eqb number 0) (ltb s.made number) h1 in
           let n : number ≡ 0 → ⊥ = eqb-false number 0 p.0 in
           let m = ltb-false s.made number p.1 in
-          let q = and_parts (numbers_fit s.frame.counts (message_at s number)) (operation_fits (is_known s) (λ p. has_room (operation_at s p)) (message_at s number)) h3 in
+          let q = and_parts (numbers_fit s.frame.counts (message_at s number)) (operation_fits (is_known s) (λ p. has_next_clock (operation_at s p)) (message_at s number)) h3 in
           receives_accepted inputs outputs s f (room h2) small (message_at s number)
           (in_sent s.log (number - 1) s.made no_message (low number n m) f.made) q.0 q.1
         where
           low : (number : ℕ) → (number ≡ 0 → ⊥) → number ≤ s.made → number - 1 < s.made
           low number n m = elim (cases_lt 0 number) [ inl l ↦ omega arith | inr l ↦ absurd (n (omega arith)) ]
 
-  begin_step : (a : Act) (o : ℕ) (y : Operation) (new : List Message) → May P a (world_of s) → length new ≤ 9
-      → run P a (world_of s) ≡ begins y new (world_of s) → says_of P a (world_of s) ≡ began (s.begun + 1) → news_of P a (world_of s) ≡ new
+  begin_step : (a : Act) (o : ℕ) (y : Operation) (new : List Message) → May P a (plain_of s) → length new ≤ 9
+      → run P a (plain_of s) ≡ begins y new (plain_of s) → says_of P a (plain_of s) ≡ began (s.begun + 1) → news_of P a (plain_of s) ≡ new
       → Stepped P s a (beginning inputs outputs o y new s)
   begin_step a o y new may l r sy nw = when_open_lem a _
       (cond_both (leb s.frame.counts.k o) (refuse 21 s) _ (λ (z : Outcome). Stepped P s a z) (λ _. no P s a 21)
@@ -178,7 +178,7 @@ module _ (inputs outputs : System) (s : State) (f : Framed s) (small : Small (pa
       ok : s.begun < length s.table → s.made + 9 ≤ length s.log → Accepted P s a (outcome (began (s.begun + 1)) (post new (enter y s)))
       ok h2 h3 = record {
         may = may;
-        world = world_path refl refl (op_enter y s h2) refl (sent_post new (enter y s) (omega arith)) ∙ sym r;
+        world = plain_path refl refl (op_enter y s h2) refl (sent_post new (enter y s) (omega arith)) ∙ sym r;
         said = sym sy;
         news = logged new (enter y s) (omega arith) ∙ sym nw;
         frame = refl;
@@ -221,7 +221,7 @@ module _ (inputs outputs : System) (s : State) (f : Framed s) (small : Small (pa
             (sym (ap (λ (b : Bool). cond b (get_or xs x 0) 0) (lt-ltb x s.frame.counts.n l)))
             (subst (λ (b : ℕ). (1000 - s.frame.drift) * get_or xs x 0 ≤ 1000 * b) (sym (ap (λ (b : Bool). cond b (get_or xs (s.frame.counts.n + y) 0) 0) (lt-ltb y s.frame.counts.m m)))
             (keep_each_lem s.frame.drift xs xs h3 (s.frame.counts.n + y) x (omega arith) (omega arith)));
-        world = world_path
+        world = plain_path
             (ap (λ (l : List Input). (λ (k : ℕ). get_or l k no_input)) o.inputs ∙ fun_ext (inputs_later xs s s.frame.counts.n (let z = f.inputs in let y = small.n_most in omega arith)))
             (fun_ext (λ j. outputs_later xs s.frame.counts.n t s.frame.counts.m (let z = f.outputs in let y = small.m_most in let w = ap (λ (l : List Output). length l) i.outputs in omega arith) j
             ∙ ap (λ (l : List Output). later_output (cond (ltb j s.frame.counts.m) (get_or xs (s.frame.counts.n + j) 0) 0) (get_or l j no_output)) i.outputs))

@@ -16,14 +16,14 @@ use Rattle.rules.specs.Reaction.{Reaction}
 use Rattle.rules.proofs.Reactions.{every_reaction}
 use Rattle.rules.specs.Said.{write_ended, read_ended}
 use Rattle.guarantee.specs.Endings.{is_refusal, also_hears, hears_names, hears_answer}
-use Rattle.guarantee.proofs.Bridge.{says_of}
-use Rattle.guarantee.proofs.Fits.{fits_pair}
+use Rattle.guarantee.proofs.CallEffects.{says_of}
+use Rattle.guarantee.proofs.RangeFacts.{fits_pair}
 use Rattle.guarantee.proofs.Gathered.{written_stays_written, read_stays_read}
 use Rattle.guarantee.proofs.Kept.{Begun, Wrote, Reads, MsgOk, Small, Kept, May}
 use Rattle.guarantee.proofs.Operations.{moved_op, named_none}
 use Rattle.guarantee.proofs.Sets.{has_none, of_set_of}
 use Rattle.guarantee.proofs.Words.{at_miss, In, all_at}
-use Rattle.guarantee.proofs.World.{Params, World, Act, ticks, writes, reads, hears, run, reaction}
+use Rattle.guarantee.proofs.PlainState.{Params, PlainState, Act, ticks, writes, reads, hears, run, reaction}
 
 -- what an act delivers
 abbrev pub heard_by : Act → Option Message
@@ -56,7 +56,7 @@ reaction_no_refusal P = every_reaction P.inputs P.outputs (λ m y r. is_refusal 
   reads = λ j p v x r e. refl;
 })
 
-pub no_refusal : (P : Params) (W : World) (a : Act) → is_refusal (says_of P a W) ≡ false
+pub no_refusal : (P : Params) (W : PlainState) (a : Act) → is_refusal (says_of P a W) ≡ false
 no_refusal P W (hears (ClockAnswer i q c)) = reaction_no_refusal P (ClockAnswer i q c) (W.op q)
 no_refusal P W (hears (WriteAnswer i q s)) = reaction_no_refusal P (WriteAnswer i q s) (W.op q)
 no_refusal P W (hears (ReadAnswer j q v x)) = reaction_no_refusal P (ReadAnswer j q v x) (W.op q)
@@ -107,7 +107,7 @@ module _ (inputs outputs : System) (il : Lawful inputs) (ol : Lawful outputs) wh
 
 -- ---- a message that an operation hears was sent by it, or to it
 
-module _ (P : Params) (W : World) (k : Kept P W) where
+module _ (P : Params) (W : PlainState) (k : Kept P W) where
   -- a write answer goes to a write that has sent its requests
   pub asked_write : (i p : ℕ) (s : MemberSet) → In (WriteAnswer i p s) W.sent
       → (o : ℕ) × (v : Version) × (x : ℕ) × (c : ℕ) × In (WriteRequest p c o v x) W.sent × Wrote (W.op p) o v x
@@ -179,7 +179,7 @@ module _ (P : Params) (il : Lawful P.inputs) (ol : Lawful P.outputs) where
         ∙ stays_written P.inputs P.outputs il ol e.0 e.1 N h
   ]
 
-  module _ (W : World) (k : Kept P W) (p : ℕ) (b : Begun W p) (N : List MemberSet) (h : ForWrite N (W.op p)) where
+  module _ (W : PlainState) (k : Kept P W) (p : ℕ) (b : Begun W p) (N : List MemberSet) (h : ForWrite N (W.op p)) where
     pub write_next : (a : Act) → May P a W → ForWrite (also_hears (hears_names p) (heard_by a) N) ((run P a W).op p)
     write_next (writes o x) m =
         subst (ForWrite N) (sym (at_miss (W.begun + 1) p (asking (first_asking (W.begun + 1) o x)) W.op (λ d. let z = b.1 in omega arith))) h
@@ -276,7 +276,7 @@ module _ (P : Params) (small : Small P) (il : Lawful P.inputs) (ol : Lawful P.ou
   pair_read A j q v x ended o g l h = stays_answered P.inputs P.outputs il ol j A l h
   pair_read A j q v x y o g l h = absurd g
 
-  pub answered_next : (W : World) (p A : ℕ) (a : Act) → May P a W → Answered A ≡ true → Answered (also_hears (hears_answer p) (heard_by a) A) ≡ true
+  pub answered_next : (W : PlainState) (p A : ℕ) (a : Act) → May P a W → Answered A ≡ true → Answered (also_hears (hears_answer p) (heard_by a) A) ≡ true
   answered_next W p A a m h = elim (answers_from p A a) [
     | inl e ↦ ap (λ (B : ℕ). Answered B) e ∙ h
     | inr e ↦
@@ -285,7 +285,7 @@ module _ (P : Params) (small : Small P) (il : Lawful P.inputs) (ol : Lawful P.ou
         ∙ stays_answered P.inputs P.outputs il ol e.0 A (let z = small.m_is in omega arith) h
   ]
 
-  module _ (W : World) (k : Kept P W) (p : ℕ) (b : Begun W p) (A : ℕ) (h : ForRead A (W.op p)) where
+  module _ (W : PlainState) (k : Kept P W) (p : ℕ) (b : Begun W p) (A : ℕ) (h : ForRead A (W.op p)) where
     pub read_next : (a : Act) → May P a W → ForRead (also_hears (hears_answer p) (heard_by a) A) ((run P a W).op p)
     read_next (writes o x) m =
         subst (ForRead A) (sym (at_miss (W.begun + 1) p (asking (first_asking (W.begun + 1) o x)) W.op (λ d. let z = b.1 in omega arith))) h

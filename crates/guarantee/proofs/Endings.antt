@@ -12,13 +12,13 @@ use Rattle.rules.specs.Said.{began}
 use Rattle.rules.specs.State.{State, Outcome, refuse}
 use Rattle.guarantee.specs.Endings.{is_refusal, message_of, delivered_at, also_hears, gathered_before, hears_names, named_before, written_before, WriteCompletes, hears_answer, answered_before, read_before, ReadCompletes, EndsWhenComplete, OperationsEndWhenComplete}
 use Rattle.guarantee.specs.Story.{Story, Call, to_open, to_advance, to_write, to_read, to_deliver, outcome_of, call_at, before, said_at, BeginsWrite, BeginsRead, EndsWrite, EndsRead}
-use Rattle.guarantee.proofs.Bridge.{params_of, act_of, Accepted}
+use Rattle.guarantee.proofs.CallEffects.{params_of, act_of, Accepted}
 use Rattle.guarantee.proofs.CallSteps.{Refuses}
 use Rattle.guarantee.proofs.Completes.{heard_by, both, no_refusal, nobody, written, answered, nobody_writes, nobody_reads, more, asked_write, asked_read, WritePlace, written_next, write_next, write_said, names_from, names_more, ReadPlace, answered_next, read_next, read_said, answers_from, answers_more}
 use Rattle.guarantee.proofs.Kept.{Begun, May}
 use Rattle.guarantee.proofs.Stories.{Live, Known, fine, happens, live_next, stayed, traced_next, accepted_at, start, begun_grow, once, OpTraced, MsgTraced, end_of_write, end_of_read}
 use Rattle.guarantee.proofs.Words.{at, at_hit, all_at}
-use Rattle.guarantee.proofs.World.{Params, World, Act, hears, run, world_of}
+use Rattle.guarantee.proofs.PlainState.{Params, PlainState, Act, hears, run, plain_of}
 
 never : {A : Type 0} → ◌≡◌ {A = ℕ} 0 1 → A
 never h = absurd (omega arith)
@@ -44,8 +44,8 @@ module _ (S : Story) (il : Lawful S.inputs) (ol : Lawful S.outputs) (closed : S.
   abbrev calls : ℕ
   calls = length S.calls
 
-  abbrev world : ℕ → World
-  world t = world_of (before S t)
+  abbrev world : ℕ → PlainState
+  world t = plain_of (before S t)
 
   abbrev params : ℕ → Params
   params t = params_of S.inputs S.outputs (before S t)
@@ -164,9 +164,9 @@ module _ (S : Story) (il : Lawful S.inputs) (ol : Lawful S.outputs) (closed : S.
         begun = let z = begun_grow S il ol closed w.known.P t (suc t) (omega arith) w.known.live in
             let b = w.begun in (b.0, let y = b.1 in omega arith);
         place = elim (happens S il ol closed (params t) t (live t w.known)) [
-          | inl r ↦ subst (λ (s : State). Place (gathered (suc t)) ((world_of s).op p)) (sym (stayed S il ol closed (before S t) (outcome_at t) r))
+          | inl r ↦ subst (λ (s : State). Place (gathered (suc t)) ((plain_of s).op p)) (sym (stayed S il ol closed (before S t) (outcome_at t) r))
               (subst (λ (g : G). Place g ((world t).op p)) (sym (rests t (refused_none t r))) w.place)
-          | inr a ↦ subst (λ (W : World). Place (gathered (suc t)) (W.op p)) (sym a.world)
+          | inr a ↦ subst (λ (W : PlainState). Place (gathered (suc t)) (W.op p)) (sym a.world)
               (subst (λ (g : G). Place g ((run (params t) (act t) (world t)).op p)) (sym (gathers t a)) (keeps t w a))
         ];
       }
@@ -194,7 +194,7 @@ module _ (S : Story) (il : Lawful S.inputs) (ol : Lawful S.outputs) (closed : S.
       record {
         known = known_next b h s.known;
         begun = (let z = s.number in omega arith, let z = s.after in omega arith);
-        place = ap (λ (W : World). W.op p) a.world ∙ ap (λ (d : Call). (run (params b) (act_of (before S b) d) (world b)).op p) f ∙ entered
+        place = ap (λ (W : PlainState). W.op p) a.world ∙ ap (λ (d : Call). (run (params b) (act_of (before S b) d) (world b)).op p) f ∙ entered
             ∙ at_hit ((world b).begun + 1) p (y ((world b).begun + 1)) (world b).op (sym s.number) ∙ ap y (sym s.number);
         heard = accepted_heard b a ∙ ap (λ (d : Call). heard_by (act_of (before S b) d)) f ∙ quiet;
       }

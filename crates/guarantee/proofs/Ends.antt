@@ -8,19 +8,19 @@ use Rattle.rules.specs.Input.{after_write}
 use Rattle.rules.specs.Operation.{Operation, asking, sending, reading, Asking, Sending, Reading, clock_questions, read_requests, gets_version, hears_clock, knows_clock, hears_named, is_written, hears_pair, is_read}
 use Rattle.rules.proofs.Reactions.{every_reaction}
 use Rattle.rules.specs.Said.{began, write_ended, read_ended}
-use Rattle.guarantee.proofs.Bridge.{says_of, news_of}
+use Rattle.guarantee.proofs.CallEffects.{says_of, news_of}
 use Rattle.guarantee.proofs.InputMoves as Ins
 use Rattle.guarantee.proofs.OutputMoves as Outs
 use Rattle.guarantee.proofs.Reacting.{sends_requests}
 use Rattle.guarantee.proofs.Words.{In, All, all_at, each_all, each_any}
-use Rattle.guarantee.proofs.World.{Params, World, Act, ticks, writes, reads, hears, run, reaction, answered}
+use Rattle.guarantee.proofs.PlainState.{Params, PlainState, Act, ticks, writes, reads, hears, run, reaction, answered}
 
 never : {A : Type 0} → ◌≡◌ {A = ℕ} 0 1 → A
 never h = absurd (omega arith)
 
 -- ---- a write that ends
 
-pub record WriteEnds (P : Params) (W : World) (a : Act) (p w y : ℕ) : Type 0 where
+pub record WriteEnds (P : Params) (W : PlainState) (a : Act) (p w y : ℕ) : Type 0 where
   pub from : ℕ
   pub set : MemberSet
   pub write : Sending
@@ -30,7 +30,7 @@ pub record WriteEnds (P : Params) (W : World) (a : Act) (p w y : ℕ) : Type 0 w
   pub version : write.version.0 ≡ w
   pub value : write.value ≡ y
 
-module _ (P : Params) (W : World) (p w y : ℕ) where
+module _ (P : Params) (W : PlainState) (p w y : ℕ) where
   reaction_ends_write : (m : Message) (x : Operation) → W.op (answered m) ≡ x → (reaction P m x).said ≡ write_ended p w y → WriteEnds P W (hears m) p w y
   reaction_ends_write = every_reaction P.inputs P.outputs (λ m x r. W.op (answered m) ≡ x → r.said ≡ write_ended p w y → WriteEnds P W (hears m) p w y) (record {
     stays = λ m x n e h. never (cc);
@@ -59,7 +59,7 @@ module _ (P : Params) (W : World) (p w y : ℕ) where
 
 -- ---- a read that ends
 
-pub record ReadEnds (P : Params) (W : World) (a : Act) (p w y : ℕ) : Type 0 where
+pub record ReadEnds (P : Params) (W : PlainState) (a : Act) (p w y : ℕ) : Type 0 where
   pub from : ℕ
   pub pair_version : Version
   pub pair_value : ℕ
@@ -70,7 +70,7 @@ pub record ReadEnds (P : Params) (W : World) (a : Act) (p w y : ℕ) : Type 0 wh
   pub version : (hears_pair from pair_version pair_value read).version.0 ≡ w
   pub value : (hears_pair from pair_version pair_value read).value ≡ y
 
-module _ (P : Params) (W : World) (p w y : ℕ) where
+module _ (P : Params) (W : PlainState) (p w y : ℕ) where
   reaction_ends_read : (m : Message) (x : Operation) → W.op (answered m) ≡ x → (reaction P m x).said ≡ read_ended p w y → ReadEnds P W (hears m) p w y
   reaction_ends_read = every_reaction P.inputs P.outputs (λ m x r. W.op (answered m) ≡ x → r.said ≡ read_ended p w y → ReadEnds P W (hears m) p w y) (record {
     stays = λ m x n e h. never (cc);
@@ -104,7 +104,7 @@ abbrev NoRequest : Message → Type 0
 NoRequest (WriteRequest p i o v x) = ⊥
 NoRequest m = Unit {0}
 
-pub record GetsVersion (P : Params) (W : World) (a : Act) (p o : ℕ) (v : Version) (x : ℕ) : Type 0 where
+pub record GetsVersion (P : Params) (W : PlainState) (a : Act) (p o : ℕ) (v : Version) (x : ℕ) : Type 0 where
   pub from : ℕ
   pub named : ℕ
   pub clock : ℕ
@@ -117,7 +117,7 @@ pub record GetsVersion (P : Params) (W : World) (a : Act) (p o : ℕ) (v : Versi
   pub version : (gets_version (hears_clock from clock ask)).version ≡ v
   pub value : ask.value ≡ x
 
-module _ (P : Params) (W : World) (p i o : ℕ) (v : Version) (x : ℕ) where
+module _ (P : Params) (W : PlainState) (p i o : ℕ) (v : Version) (x : ℕ) where
   nowhere : (new : List Message) → All NoRequest new → In (WriteRequest p i o v x) new → ⊥
   nowhere new a h = all_at NoRequest (WriteRequest p i o v x) new a h
 
@@ -146,7 +146,7 @@ module _ (P : Params) (W : World) (p i o : ℕ) (v : Version) (x : ℕ) where
   gets_version_lem (hears (ClockQuestion q k)) h = elim h [ inl f ↦ never (cc) | inr f ↦ absurd f ]
   gets_version_lem (hears (ClockAnswer k q c)) h = reaction_gets (ClockAnswer k q c) (W.op q) refl h
   gets_version_lem (hears (WriteRequest q k z u y)) h = absurd (nowhere _
-      (Ins.names3 NoRequest k q P.counts.m z (after_write P.counts.m z u y (W.inp k)) (λ _. tt) tt) h)
+      (Ins.names_write NoRequest k q P.counts.m z (after_write P.counts.m z u y (W.inp k)) (λ _. tt) tt) h)
   gets_version_lem (hears (WriteAnswer k q t)) h = reaction_gets (WriteAnswer k q t) (W.op q) refl h
   gets_version_lem (hears (ReadRequest q j z)) h = absurd (nowhere _ (Outs.read_all P.inputs j q P.counts.n z (W.out j) NoRequest (λ _. tt) (λ _ _. tt)) h)
   gets_version_lem (hears (ReadAnswer j q u y)) h = reaction_gets (ReadAnswer j q u y) (W.op q) refl h
@@ -161,7 +161,7 @@ abbrev NoAsking : Message → Type 0
 NoAsking (ReadRequest p j o) = ⊥
 NoAsking m = Unit {0}
 
-module _ (P : Params) (W : World) (p j o : ℕ) where
+module _ (P : Params) (W : PlainState) (p j o : ℕ) where
   unasked : (new : List Message) → All NoAsking new → In (ReadRequest p j o) new → ⊥
   unasked new a h = all_at NoAsking (ReadRequest p j o) new a h
 
@@ -183,7 +183,7 @@ module _ (P : Params) (W : World) (p j o : ℕ) where
   asks_read (hears (ClockQuestion q k)) h = elim h [ inl f ↦ never (cc) | inr f ↦ absurd f ]
   asks_read (hears (ClockAnswer k q c)) h = absurd (reaction_asks_none (ClockAnswer k q c) (W.op q) h)
   asks_read (hears (WriteRequest q k z u y)) h = absurd (unasked _
-      (Ins.names3 NoAsking k q P.counts.m z (after_write P.counts.m z u y (W.inp k)) (λ _. tt) tt) h)
+      (Ins.names_write NoAsking k q P.counts.m z (after_write P.counts.m z u y (W.inp k)) (λ _. tt) tt) h)
   asks_read (hears (WriteAnswer k q t)) h = absurd (reaction_asks_none (WriteAnswer k q t) (W.op q) h)
   asks_read (hears (ReadRequest q c z)) h = absurd (unasked _ (Outs.read_all P.inputs c q P.counts.n z (W.out c) NoAsking (λ _. tt) (λ _ _. tt)) h)
   asks_read (hears (ReadAnswer c q u y)) h = absurd (reaction_asks_none (ReadAnswer c q u y) (W.op q) h)
@@ -194,7 +194,7 @@ module _ (P : Params) (W : World) (p j o : ℕ) where
 
 -- ---- an operation that begins
 
-module _ (P : Params) (W : World) (p : ℕ) where
+module _ (P : Params) (W : PlainState) (p : ℕ) where
   reaction_begins_none : (m : Message) (x : Operation) → (reaction P m x).said ≡ began p → ◌≡◌ {A = ℕ} 0 1
   reaction_begins_none = every_reaction P.inputs P.outputs (λ m x r. r.said ≡ began p → ◌≡◌ {A = ℕ} 0 1) (record {
     stays = λ m x n h. cc;

@@ -2,10 +2,10 @@
 use Rattle.std.proofs.Common.{◌≡◌, ℕ, ◌+◌, ◌*◌, ◌<◌, ◌≤◌, ◌⊎◌, List, sym, subst, inl, inr, mul-le-mul_left, arith}
 use native.Mathlib.Decide.{dec_le}
 use Rattle.rules.specs.declared.pairs.Pair.{Pair}
-use Rattle.guarantee.proofs.View.{Has, View, fin, Grant, Inv, Moves, Older, Known, Dead, Fenced, Good, Shut, Queued, asked, copy, lease, answer}
+use Rattle.guarantee.proofs.Channel.{Has, Channel, fin, Grant, Inv, Moves, Older, Known, Dead, Fenced, Good, Shut, Queued, asked, copy, lease, answer}
 
 -- a good copy has passed the fence
-pub pass : (L R : ℕ) (V : View) (o w : ℕ) → Inv L R V → Fenced R V o w → Good V o → w ≤ V.known o
+pub pass : (L R : ℕ) (V : Channel) (o w : ℕ) → Inv L R V → Fenced R V o w → Good V o → w ≤ V.known o
 pass L R V o w i f g = elim f.why [ inl k ↦ known k (i.got_source o) | inr d ↦ dead d i.lease_source (i.copy_source o) ]
   where
     known : Known V o w → (V.got o ≡ 0) ⊎ ((e : ℕ) × V.Sent (copy o (V.got o) e)) → w ≤ V.known o
@@ -30,20 +30,20 @@ pass L R V o w i f g = elim f.why [ inl k ↦ known k (i.got_source o) | inr d �
     ]
 
 -- once the input server's clock has reached its lease end, every lease that it granted is over at the output server
-pub over : (L R : ℕ) (V : View) → Inv L R V → V.granted ≤ V.clock_in → (s l e : ℕ) (ps : List Pair) → V.Sent (lease s l e ps) → fin R s l ≤ V.clock_out
+pub over : (L R : ℕ) (V : Channel) → Inv L R V → V.granted ≤ V.clock_in → (s l e : ℕ) (ps : List Pair) → V.Sent (lease s l e ps) → fin R s l ≤ V.clock_out
 over L R V i z s l e ps b = rw (i.lease_ok s l e ps b).0 (omega (arith, i.drift s l e ps b, mul-le-mul_left R z))
 
 -- a fence is there as soon as the input calls the output shut out, right after it has queued
-pub establish : (L R : ℕ) (V : View) (o w : ℕ) → Inv L R V → Shut V o → Queued V o → w ≤ V.held o → Fenced R V o w
+pub establish : (L R : ℕ) (V : Channel) (o w : ℕ) → Inv L R V → Shut V o → Queued V o → w ≤ V.held o → Fenced R V o w
 establish L R V o w i s q h = record { holds = h; why = by s q }
   where
-    none : V.given o ≡ 0 → Known V o w
+    none : V.last_read o ≡ 0 → Known V o w
     none z v e b = let r = i.copy_ok o v e b in inl (omega arith)
 
-    past : V.given o < V.acked o → Known V o w
+    past : V.last_read o < V.last_acknowledged o → Known V o w
     past z v e b = let r = i.copy_ok o v e b in inr (omega (arith, i.acked_known o))
 
-    full : V.held o ≤ V.acked o → (v : ℕ) → Dec (w ≤ v) → (w ≤ v) ⊎ (v < V.known o)
+    full : V.held o ≤ V.last_acknowledged o → (v : ℕ) → Dec (w ≤ v) → (w ≤ v) ⊎ (v < V.known o)
     full z v (yes d) = inl d
     full z v (no d) = inr (omega (arith, i.acked_known o))
 
@@ -59,7 +59,7 @@ establish L R V o w i s q h = record { holds = h; why = by s q }
         inr (record { sent = λ s l e ps b. inl (over L R V i z s l e ps b); next = inr (λ v e b _. y v e b) })
 
 -- a step of any server keeps every fence
-pub stable : (L R : ℕ) (V W : View) (o w : ℕ) → Inv L R V → Inv L R W → Moves L R V W → Fenced R V o w → Fenced R W o w
+pub stable : (L R : ℕ) (V W : Channel) (o w : ℕ) → Inv L R V → Inv L R W → Moves L R V W → Fenced R V o w → Fenced R W o w
 stable L R V W o w i j m f = record { holds = up; why = elim f.why [ inl k ↦ inl (keeps k) | inr d ↦ dead d (next d.next) ] }
   where
     up : w ≤ W.held o
@@ -113,12 +113,12 @@ stable L R V W o w i j m f = record { holds = up; why = elim f.why [ inl k ↦ i
         ]
 
 -- a step of any server keeps the invariants
-pub invariant : (L R : ℕ) (V W : View) → Inv L R V → Moves L R V W → Inv L R W
+pub invariant : (L R : ℕ) (V W : Channel) → Inv L R V → Moves L R V W → Inv L R W
 invariant L R V W i m = record {
   given_held = given;
   acked_known = λ o. elim (m.acked_from o) [
     | inl e ↦ omega (arith, i.acked_known o, m.known_up o)
-    | inr a ↦ omega (arith, i.answered o (W.acked o) a, m.known_up o)
+    | inr a ↦ omega (arith, i.answered o (W.last_acknowledged o) a, m.known_up o)
   ];
   answered = λ o v a. elim (m.fresh (answer o v) a) [ inl b ↦ omega (arith, i.answered o v b, m.known_up o) | inr b ↦ b ];
   got_known = λ o. elim (m.got_from o) [ inl e ↦ omega (arith, i.got_known o, m.known_up o) | inr a ↦ a.2 ];
@@ -147,7 +147,7 @@ invariant L R V W i m = record {
   asked_ok = λ s b. elim (m.fresh (asked s) b) [ inl a ↦ omega (arith, i.asked_ok s a, m.clock_up) | inr a ↦ omega (arith, m.clock_up) ];
 }
   where
-    given : (o : ℕ) → W.given o ≤ W.held o
+    given : (o : ℕ) → W.last_read o ≤ W.held o
     given o = elim (m.given_set o) [ inl e ↦ omega (arith, i.given_held o, m.held_up o) | inr e ↦ omega arith ]
 
     moved : (t : ℕ) → Grant R V t W.lease_epoch W.known → Grant R W t W.lease_epoch W.known
@@ -162,7 +162,7 @@ invariant L R V W i m = record {
     leased (inl e) (inr g) = inr (subst (λ (t : ℕ). Grant R W t W.lease_epoch W.known) (sym e) (moved V.end_of_lease (later g)))
     leased (inr g) z = inr (moved W.end_of_lease g)
 
-    objs : (o v e : ℕ) → W.Sent (copy o v e) → (1 ≤ v) × (v ≤ W.given o) × (e ≤ W.epoch)
+    objs : (o v e : ℕ) → W.Sent (copy o v e) → (1 ≤ v) × (v ≤ W.last_read o) × (e ≤ W.epoch)
     objs o v e b = elim (m.fresh (copy o v e) b) [
       | inl a ↦ let r = i.copy_ok o v e a in
           (r.0, elim (m.given_set o) [ inl y ↦ omega arith | inr y ↦ omega (arith, i.given_held o, m.held_up o) ], omega (arith, m.epoch_up))

@@ -14,15 +14,15 @@ use Rattle.rules.specs.declared.pairs.Pair.{Pair}
 use Rattle.rules.specs.declared.pairs.Pairs.{Pairs}
 use Rattle.numbers.specs.declared.time.Time.{Time}
 use Rattle.numbers.specs.declared.version.Version.{Version}
-use Rattle.rules.specs.Input.{Input, no_held, no_ledger, held, ledger, chain, last_read, last_ack, is_shut_out, queued, freed, fits}
+use Rattle.rules.specs.Input.{Input, no_held, no_ledger, held, ledger, chain, last_read, last_acknowledged, is_shut_out, queued, freed, fits}
 use Rattle.rules.specs.Input.{takes_write, owed, with_chain, queues_for, queues_all, after_write, invalidations, answers_write}
 use Rattle.rules.specs.Input.{grants, answers_renewal, after_renewal, acknowledges, acknowledges_all, later_input}
 use Rattle.rules.specs.Lists.{no_pair, list_of, pairs}
 use Rattle.numbers.specs.Numbers.{none, clock_of, raised, shown}
 use Rattle.rules.specs.Output.{Output, later_output}
 use Rattle.rules.specs.Renewals.{asks_object, asks_volume}
-use Rattle.guarantee.proofs.View.{Has, Part, asked, copy, lease, answer, Inv, Moves, Fresh, Shut, Queued}
-use Rattle.guarantee.proofs.Channel.{IsCopy, IsLease, Says, view_of, Quiet, InputShape}
+use Rattle.guarantee.proofs.Channel.{Has, Part, asked, copy, lease, answer, Inv, Moves, Fresh, Shut, Queued}
+use Rattle.guarantee.proofs.ChannelOf.{IsCopy, IsLease, Says, channel_of, Quiet, InputShape}
 use Rattle.guarantee.proofs.Words.{set_from, Any, In, All, any_old, any_split, in_any, all-++, each_all, each_length}
 
 -- ---- what is read of versions, objects and ledgers
@@ -34,22 +34,22 @@ abbrev held_number : Held → ℕ
 held_number h = h.version.0
 
 abbrev given_number : Held → ℕ
-given_number h = h.given.0
+given_number h = h.last_read.0
 
 abbrev the_acked : Ledger → List Version
-the_acked l = l.acked
+the_acked l = l.last_acknowledged
 
 abbrev the_epoch : Ledger → Epoch
 the_epoch l = l.epoch
 
 abbrev the_until : Ledger → Time
-the_until l = l.until
+the_until l = l.lease_end
 
 abbrev epoch_number : Ledger → ℕ
 epoch_number l = l.epoch.0
 
 abbrev acked_at : ℕ → Ledger → ℕ
-acked_at p l = (get_or l.acked p none).0
+acked_at p l = (get_or l.last_acknowledged p none).0
 
 -- ---- lists of pairs
 
@@ -105,13 +105,13 @@ module _ (L R : ℕ) where
       ((ledger I j).epoch.0 ≤ (ledger J j).epoch.0) →
       (J.clock ≡ I.clock) →
       ((o : ℕ) → (last_read J j o ≡ last_read I j o) ⊎ (last_read J j o ≡ (held J o).version.0)) →
-      ((o : ℕ) → (last_ack J j o ≡ last_ack I j o) ⊎ Any (Says i j (answer o (last_ack J j o))) log) →
-      (((ledger J j).until.0 ≡ (ledger I j).until.0) ⊎ ((ledger J j).until.0 ≡ J.clock.0 + L)) →
+      ((o : ℕ) → (last_acknowledged J j o ≡ last_acknowledged I j o) ⊎ Any (Says i j (answer o (last_acknowledged J j o))) log) →
+      (((ledger J j).lease_end.0 ≡ (ledger I j).lease_end.0) ⊎ ((ledger J j).lease_end.0 ≡ J.clock.0 + L)) →
       ((o v : ℕ) → Has o v (chain I j) →
       ((u : ℕ) × Has o u (chain J j) × ((v ≤ u) ⊎ (u ≡ (held J o).version.0)))
-      ⊎ (v ≤ last_ack J j o) ⊎ ((ledger I j).epoch.0 < (ledger J j).epoch.0)) →
-      ((p : Part) → Any (Says i j p) new → Fresh L (view_of I O i j log) (view_of J O i j (log ++ new)) p) →
-      Moves L R (view_of I O i j log) (view_of J O i j (log ++ new))
+      ⊎ (v ≤ last_acknowledged J j o) ⊎ ((ledger I j).epoch.0 < (ledger J j).epoch.0)) →
+      ((p : Part) → Any (Says i j p) new → Fresh L (channel_of I O i j log) (channel_of J O i j (log ++ new)) p) →
+      Moves L R (channel_of I O i j log) (channel_of J O i j (log ++ new))
   in_moves I J O i j new log up ep cl rd ak le ch fr = record {
     held_up = up;
     known_up = λ o. omega arith;
@@ -132,13 +132,13 @@ module _ (L R : ℕ) where
 
   -- what other servers do leaves a channel alone
   pub still : (I : Input) (O : Output) (i j : ℕ) (new log : List Message) → Quiet i j new →
-      Moves L R (view_of I O i j log) (view_of I O i j (log ++ new))
+      Moves L R (channel_of I O i j log) (channel_of I O i j (log ++ new))
   still I O i j new log q = in_moves I I O i j new log (λ o. omega arith) (omega arith) refl (λ o. inl refl) (λ o. inl refl) (inl refl)
       (λ o v h. inl (v, h, inl (omega arith))) (λ p h. absurd (q p h))
 
   -- both clocks move on, within the drift
   pub ticks : (I : Input) (O : Output) (i j : ℕ) (log : List Message) (x y : ℕ) → R * x ≤ 1000 * y →
-      Moves L R (view_of I O i j log) (view_of (later_input x I) (later_output y O) i j log)
+      Moves L R (channel_of I O i j log) (channel_of (later_input x I) (later_output y O) i j log)
   ticks I O i j log x y h = record {
     held_up = λ o. omega arith;
     known_up = λ o. omega arith;
@@ -158,8 +158,8 @@ module _ (L R : ℕ) where
   }
 
 -- what the test for being shut out says of the channel
-pub shut_shut : (I : Input) (O : Output) (i j : ℕ) (log : List Message) (o : ℕ) → is_shut_out I o j ≡ true → Shut (view_of I O i j log) o
-shut_shut I O i j log o h = tests (last_read I j o) (last_ack I j o) (held I o).version.0 (ledger I j).until.0 I.clock.0 h
+pub shut_shut : (I : Input) (O : Output) (i j : ℕ) (log : List Message) (o : ℕ) → is_shut_out I o j ≡ true → Shut (channel_of I O i j log) o
+shut_shut I O i j log o h = tests (last_read I j o) (last_acknowledged I j o) (held I o).version.0 (ledger I j).lease_end.0 I.clock.0 h
   where
     tests : (r a h u c : ℕ) → (eqb r 0 || (ltb r a || (leb h a || leb u c))) ≡ true → (r ≡ 0) ⊎ (r < a) ⊎ (h ≤ a) ⊎ (u ≤ c)
     tests r a h u c t = elim (or_cases (eqb r 0) (ltb r a || (leb h a || leb u c)) t) [
@@ -190,7 +190,7 @@ pub record Took (o : ℕ) (v : Version) (x : ℕ) (I J : Input) : Type 0 where
   pub ledgers : J.ledgers ≡ I.ledgers
   pub waiting : J.waiting ≡ I.waiting
   pub long : length J.objects ≡ length I.objects
-  pub given : (p : ℕ) → (held J p).given ≡ (held I p).given
+  pub last_read : (p : ℕ) → (held J p).last_read ≡ (held I p).last_read
   pub up : (p : ℕ) → (held I p).version.0 ≤ (held J p).version.0
   pub wrote : (p : ℕ) → Wrote o v x I J p
   pub lc_up : I.lc ≤ J.lc
@@ -199,7 +199,7 @@ pub record Took (o : ℕ) (v : Version) (x : ℕ) (I J : Input) : Type 0 where
 
 -- the object with the version and value written
 abbrev written : Version → ℕ → Held → Held
-written v x h = record { version = v; value = x; given = h.given }
+written v x h = record { version = v; value = x; last_read = h.last_read }
 
 -- the server where the version is taken
 abbrev taken : ℕ → Version → ℕ → Input → Input
@@ -225,9 +225,9 @@ took o v x I = cond_both (ltb (held I o).version.0 v.0) (taken o v x I) I (Took 
       ledgers = refl;
       waiting = refl;
       long = length-set I.objects o (written v x (held I o));
-      given = λ p. elim (new p) [
-        | inl e ↦ ap (λ (y : Held). y.given) e
-        | inr e ↦ ap (λ (y : Held). y.given) e.1 ∙ ap (λ (k : ℕ). (held I k).given) e.0
+      last_read = λ p. elim (new p) [
+        | inl e ↦ ap (λ (y : Held). y.last_read) e
+        | inr e ↦ ap (λ (y : Held). y.last_read) e.1 ∙ ap (λ (k : ℕ). (held I k).last_read) e.0
       ];
       up = λ p. elim (new p) [
         | inl e ↦ omega (arith, ap held_number e)
@@ -251,7 +251,7 @@ took o v x I = cond_both (ltb (held I o).version.0 v.0) (taken o v x I) I (Took 
       ledgers = refl;
       waiting = refl;
       long = refl;
-      given = λ p. refl;
+      last_read = λ p. refl;
       up = λ p. omega arith;
       wrote = λ p. inl (refl, refl);
       lc_up = omega arith;
@@ -287,8 +287,8 @@ pub record Swept (o c : ℕ) (I J : Input) : Type 0 where
   pub objects : J.objects ≡ I.objects
   pub lc : J.lc ≡ I.lc
   pub clock : J.clock ≡ I.clock
-  pub acked : (j : ℕ) → (ledger J j).acked ≡ (ledger I j).acked
-  pub until : (j : ℕ) → (ledger J j).until ≡ (ledger I j).until
+  pub last_acknowledged : (j : ℕ) → (ledger J j).last_acknowledged ≡ (ledger I j).last_acknowledged
+  pub lease_end : (j : ℕ) → (ledger J j).lease_end ≡ (ledger I j).lease_end
   pub epoch : (j : ℕ) → ((ledger I j).epoch.0 ≤ (ledger J j).epoch.0) × ((ledger J j).epoch.0 ≤ (ledger I j).epoch.0 + 1)
   pub ledgers : length J.ledgers ≡ length I.ledgers
   pub waiting : length J.waiting ≡ length I.waiting
@@ -296,7 +296,7 @@ pub record Swept (o c : ℕ) (I J : Input) : Type 0 where
 
 -- the ledger with another epoch
 abbrev in_epoch : Epoch → Ledger → Ledger
-in_epoch e l = record { acked = l.acked; epoch = e; until = l.until }
+in_epoch e l = record { last_acknowledged = l.last_acknowledged; epoch = e; lease_end = l.lease_end }
 
 module _ (c : ℕ) (x : List Pair) (e : Epoch) (K : Input) where
   -- one chain changed: its place, and the others
@@ -316,16 +316,16 @@ module _ (c : ℕ) (x : List Pair) (e : Epoch) (K : Input) where
   ledger_from : (j : ℕ) → (ledger (with_chain c x e K) j ≡ ledger K j) ⊎ ((c ≡ j) × (ledger (with_chain c x e K) j ≡ in_epoch e (ledger K c)))
   ledger_from j = set_from K.ledgers c j (in_epoch e (ledger K c)) no_ledger
 
-  chain_acked : (j : ℕ) → (ledger (with_chain c x e K) j).acked ≡ (ledger K j).acked
+  chain_acked : (j : ℕ) → (ledger (with_chain c x e K) j).last_acknowledged ≡ (ledger K j).last_acknowledged
   chain_acked j = elim (ledger_from j) [
     | inl d ↦ ap the_acked d
-    | inr d ↦ ap the_acked d.1 ∙ ap (λ (k : ℕ). (ledger K k).acked) d.0
+    | inr d ↦ ap the_acked d.1 ∙ ap (λ (k : ℕ). (ledger K k).last_acknowledged) d.0
   ]
 
-  chain_until : (j : ℕ) → (ledger (with_chain c x e K) j).until ≡ (ledger K j).until
+  chain_until : (j : ℕ) → (ledger (with_chain c x e K) j).lease_end ≡ (ledger K j).lease_end
   chain_until j = elim (ledger_from j) [
     | inl d ↦ ap the_until d
-    | inr d ↦ ap the_until d.1 ∙ ap (λ (k : ℕ). (ledger K k).until) d.0
+    | inr d ↦ ap the_until d.1 ∙ ap (λ (k : ℕ). (ledger K k).lease_end) d.0
   ]
 
   -- the sweep goes on past c, of which it left the epoch or took the next
@@ -335,8 +335,8 @@ module _ (c : ℕ) (x : List Pair) (e : Epoch) (K : Input) where
     objects = s.objects;
     lc = s.lc;
     clock = s.clock;
-    acked = λ j. chain_acked j ∙ s.acked j;
-    until = λ j. chain_until j ∙ s.until j;
+    last_acknowledged = λ j. chain_acked j ∙ s.last_acknowledged j;
+    lease_end = λ j. chain_until j ∙ s.lease_end j;
     epoch = λ j. elim (ledger_from j) [
       | inl d ↦ let y = s.epoch j in let z = ap epoch_number d in (omega arith, omega arith)
       | inr d ↦ let y = (s.after j (omega arith)).1 in let z = ap epoch_number d.1 in
@@ -356,8 +356,8 @@ passed o c I K s = record {
   objects = s.objects;
   lc = s.lc;
   clock = s.clock;
-  acked = s.acked;
-  until = s.until;
+  last_acknowledged = s.last_acknowledged;
+  lease_end = s.lease_end;
   epoch = s.epoch;
   ledgers = s.ledgers;
   waiting = s.waiting;
@@ -387,8 +387,8 @@ swept o zero I = record {
   objects = refl;
   lc = refl;
   clock = refl;
-  acked = λ j. refl;
-  until = λ j. refl;
+  last_acknowledged = λ j. refl;
+  lease_end = λ j. refl;
   epoch = λ j. (omega arith, omega arith);
   ledgers = refl;
   waiting = refl;
@@ -440,7 +440,7 @@ queues_own o c I K s h k = queues_cases o c K (λ (J : Input). Outcome o I c (ch
 
     owes : owed K o c ≡ owed I o c
     owes = ap₂ (λ (l : List Held) (a : List Version).
-        not (eqb (get_or l o no_held).given.0 0) && leb (get_or a o none).0 (get_or l o no_held).given.0) s.objects (s.acked c)
+        not (eqb (get_or l o no_held).last_read.0 0) && leb (get_or a o none).0 (get_or l o no_held).last_read.0) s.objects (s.last_acknowledged c)
 
 -- so does the whole sweep, for each output server that it comes to
 pub outcome : (o m : ℕ) (I : Input) → m ≤ length I.ledgers → m ≤ length I.waiting → (j : ℕ) → j < m →
@@ -459,83 +459,83 @@ outcome o (suc c) I h k j l = elim (cases_eq c j) [
 -- ---- write request: what it does to the server
 
 -- no version held falls
-pub up3 : (m o : ℕ) (v : Version) (x : ℕ) (I : Input) (p : ℕ) → (held I p).version.0 ≤ (held (after_write m o v x I) p).version.0
-up3 m o v x I p = omega (
+pub up_write : (m o : ℕ) (v : Version) (x : ℕ) (I : Input) (p : ℕ) → (held I p).version.0 ≤ (held (after_write m o v x I) p).version.0
+up_write m o v x I p = omega (
   arith,
   (took o v x I).up p,
   ap (λ (r : List Held). held_number (get_or r p no_held)) (swept o m (takes_write o v x I)).objects,
 )
 
 -- each object is as it was, or it is the one written, with the version and value written
-pub held3 : (m o : ℕ) (v : Version) (x : ℕ) (I : Input) (p : ℕ) →
+pub held_write : (m o : ℕ) (v : Version) (x : ℕ) (I : Input) (p : ℕ) →
     (((held (after_write m o v x I) p).version ≡ (held I p).version) × ((held (after_write m o v x I) p).value ≡ (held I p).value))
     ⊎ ((p ≡ o) × ((held (after_write m o v x I) p).version ≡ v) × ((held (after_write m o v x I) p).value ≡ x))
-held3 m o v x I p = subst (λ (l : List Held). (((get_or l p no_held).version ≡ (held I p).version) × ((get_or l p no_held).value ≡ (held I p).value))
+held_write m o v x I p = subst (λ (l : List Held). (((get_or l p no_held).version ≡ (held I p).version) × ((get_or l p no_held).value ≡ (held I p).value))
     ⊎ ((p ≡ o) × ((get_or l p no_held).version ≡ v) × ((get_or l p no_held).value ≡ x)))
     (sym (swept o m (takes_write o v x I)).objects) ((took o v x I).wrote p)
 
 -- the server then holds at least the version written
-pub holds3 : (m o : ℕ) (v : Version) (x : ℕ) (I : Input) → InputShape I → o < 16 → v.0 ≤ (held (after_write m o v x I) o).version.0
-holds3 m o v x I s l = omega (
+pub holds_write : (m o : ℕ) (v : Version) (x : ℕ) (I : Input) → InputShape I → o < 16 → v.0 ≤ (held (after_write m o v x I) o).version.0
+holds_write m o v x I s l = omega (
   arith,
   took_holds o v x I (omega (arith, s.objects)),
   ap (λ (k : List Held). (get_or k o no_held).version.0) (swept o m (takes_write o v x I)).objects,
 )
 
 -- what any output server was given of an object stays
-pub givens3 : (m o : ℕ) (v : Version) (x : ℕ) (I : Input) (p : ℕ) → (held (after_write m o v x I) p).given ≡ (held I p).given
-givens3 m o v x I p = ap (λ (l : List Held). (get_or l p no_held).given) (swept o m (takes_write o v x I)).objects ∙ (took o v x I).given p
+pub all_read_write : (m o : ℕ) (v : Version) (x : ℕ) (I : Input) (p : ℕ) → (held (after_write m o v x I) p).last_read ≡ (held I p).last_read
+all_read_write m o v x I p = ap (λ (l : List Held). (get_or l p no_held).last_read) (swept o m (takes_write o v x I)).objects ∙ (took o v x I).last_read p
 
-pub given3 : (m o : ℕ) (v : Version) (x : ℕ) (I : Input) (j p : ℕ) → last_read (after_write m o v x I) j p ≡ last_read I j p
-given3 m o v x I j p = ap number (givens3 m o v x I p)
+pub read_write : (m o : ℕ) (v : Version) (x : ℕ) (I : Input) (j p : ℕ) → last_read (after_write m o v x I) j p ≡ last_read I j p
+read_write m o v x I j p = ap number (all_read_write m o v x I p)
 
 -- what an output server acknowledged stays
-pub ackeds3 : (m o : ℕ) (v : Version) (x : ℕ) (I : Input) (j : ℕ) → (ledger (after_write m o v x I) j).acked ≡ (ledger I j).acked
-ackeds3 m o v x I j = (swept o m (takes_write o v x I)).acked j ∙ ap (λ (l : List Ledger). (get_or l j no_ledger).acked) (took o v x I).ledgers
+pub all_acknowledged_write : (m o : ℕ) (v : Version) (x : ℕ) (I : Input) (j : ℕ) → (ledger (after_write m o v x I) j).last_acknowledged ≡ (ledger I j).last_acknowledged
+all_acknowledged_write m o v x I j = (swept o m (takes_write o v x I)).last_acknowledged j ∙ ap (λ (l : List Ledger). (get_or l j no_ledger).last_acknowledged) (took o v x I).ledgers
 
-pub acked3 : (m o : ℕ) (v : Version) (x : ℕ) (I : Input) (j p : ℕ) → last_ack (after_write m o v x I) j p ≡ last_ack I j p
-acked3 m o v x I j p = ap (λ (a : List Version). (get_or a p none).0) (ackeds3 m o v x I j)
+pub acknowledged_write : (m o : ℕ) (v : Version) (x : ℕ) (I : Input) (j p : ℕ) → last_acknowledged (after_write m o v x I) j p ≡ last_acknowledged I j p
+acknowledged_write m o v x I j p = ap (λ (a : List Version). (get_or a p none).0) (all_acknowledged_write m o v x I j)
 
 -- leases and the clock stay
-pub until3 : (m o : ℕ) (v : Version) (x : ℕ) (I : Input) (j : ℕ) → (ledger (after_write m o v x I) j).until ≡ (ledger I j).until
-until3 m o v x I j = (swept o m (takes_write o v x I)).until j ∙ ap (λ (l : List Ledger). (get_or l j no_ledger).until) (took o v x I).ledgers
+pub lease_end_write : (m o : ℕ) (v : Version) (x : ℕ) (I : Input) (j : ℕ) → (ledger (after_write m o v x I) j).lease_end ≡ (ledger I j).lease_end
+lease_end_write m o v x I j = (swept o m (takes_write o v x I)).lease_end j ∙ ap (λ (l : List Ledger). (get_or l j no_ledger).lease_end) (took o v x I).ledgers
 
-pub clock3 : (m o : ℕ) (v : Version) (x : ℕ) (I : Input) → (after_write m o v x I).clock ≡ I.clock
-clock3 m o v x I = (swept o m (takes_write o v x I)).clock ∙ (took o v x I).clock
+pub clock_write : (m o : ℕ) (v : Version) (x : ℕ) (I : Input) → (after_write m o v x I).clock ≡ I.clock
+clock_write m o v x I = (swept o m (takes_write o v x I)).clock ∙ (took o v x I).clock
 
 -- an epoch stays, or the next one begins
-pub epoch3 : (m o : ℕ) (v : Version) (x : ℕ) (I : Input) (j : ℕ) →
+pub epoch_write : (m o : ℕ) (v : Version) (x : ℕ) (I : Input) (j : ℕ) →
     ((ledger I j).epoch.0 ≤ (ledger (after_write m o v x I) j).epoch.0)
     × ((ledger (after_write m o v x I) j).epoch.0 ≤ (ledger I j).epoch.0 + 1)
-epoch3 m o v x I j = let a = (swept o m (takes_write o v x I)).epoch j in
+epoch_write m o v x I j = let a = (swept o m (takes_write o v x I)).epoch j in
     let b = ap (λ (l : List Ledger). (get_or l j no_ledger).epoch.0) (took o v x I).ledgers in (omega arith, omega arith)
 
 -- the highest clock rises, stays above that of every version held, and comes above that of the version written
-pub lc3 : (m o : ℕ) (v : Version) (x : ℕ) (I : Input) →
+pub lc_write : (m o : ℕ) (v : Version) (x : ℕ) (I : Input) →
     (I.lc ≤ (after_write m o v x I).lc) × (Clocked I → Clocked (after_write m o v x I)) × (Clocked I → clock_of v ≤ (after_write m o v x I).lc)
-lc3 m o v x I = let t = took o v x I in let s = swept o m (takes_write o v x I) in (
+lc_write m o v x I = let t = took o v x I in let s = swept o m (takes_write o v x I) in (
   omega (arith, t.lc_up, s.lc),
   λ c p. omega (arith, t.lc_held c p, s.lc, ap (λ (r : List Held). held_number (get_or r p no_held)) s.objects),
   λ c. omega (arith, t.lc_new c, s.lc),
 )
 
 -- the lists keep their lengths
-pub shape3 : (m o : ℕ) (v : Version) (x : ℕ) (I : Input) → InputShape I → InputShape (after_write m o v x I)
-shape3 m o v x I h = let t = took o v x I in let s = swept o m (takes_write o v x I) in record {
+pub shape_write : (m o : ℕ) (v : Version) (x : ℕ) (I : Input) → InputShape I → InputShape (after_write m o v x I)
+shape_write m o v x I h = let t = took o v x I in let s = swept o m (takes_write o v x I) in record {
   objects = ap (λ (l : List Held). length l) s.objects ∙ t.long ∙ h.objects;
   ledgers = s.ledgers ∙ ap (λ (l : List Ledger). length l) t.ledgers ∙ h.ledgers;
-  acked = λ j l. ap (λ (a : List Version). length a) (ackeds3 m o v x I j) ∙ h.acked j l;
+  last_acknowledged = λ j l. ap (λ (a : List Version). length a) (all_acknowledged_write m o v x I j) ∙ h.last_acknowledged j l;
   waiting = s.waiting ∙ ap (λ (l : List (List Pair)). length l) t.waiting ∙ h.waiting;
 }
 
 -- the chain and the epoch of each output server below m
-pub outcome3 : (m o : ℕ) (v : Version) (x : ℕ) (I : Input) → InputShape I → m ≤ 8 → (j : ℕ) → j < m →
+pub outcome_write : (m o : ℕ) (v : Version) (x : ℕ) (I : Input) → InputShape I → m ≤ 8 → (j : ℕ) → j < m →
     ((chain (after_write m o v x I) j ≡ chain I j) × ((ledger (after_write m o v x I) j).epoch.0 ≡ (ledger I j).epoch.0)
-    × ((last_read I j o ≡ 0) ⊎ (last_read I j o < last_ack I j o)))
+    × ((last_read I j o ≡ 0) ⊎ (last_read I j o < last_acknowledged I j o)))
     ⊎ ((chain (after_write m o v x I) j ≡ queued (pair_of o (after_write m o v x I)) (chain I j))
     × ((ledger (after_write m o v x I) j).epoch.0 ≡ (ledger I j).epoch.0))
     ⊎ ((chain (after_write m o v x I) j ≡ []) × ((ledger (after_write m o v x I) j).epoch.0 ≡ (ledger I j).epoch.0 + 1))
-outcome3 m o v x I h few j l = elim (outcome o m K (omega (arith, h.ledgers, long)) (omega (arith, h.waiting, wide)) j l) [
+outcome_write m o v x I h few j l = elim (outcome o m K (omega (arith, h.ledgers, long)) (omega (arith, h.waiting, wide)) j l) [
   | inl y ↦ inl (y.0 ∙ chains, omega (arith, y.1, epochs), free y.2)
   | inr (inl y) ↦ inr (inl (y.0 ∙ ap₂ (requeued o) (sym (swept o m K).objects) chains, omega (arith, y.1, epochs)))
   | inr (inr y) ↦ inr (inr (y.0, omega (arith, y.1, epochs)))
@@ -556,36 +556,36 @@ outcome3 m o v x I h few j l = elim (outcome o m K (omega (arith, h.ledgers, lon
     epochs : (ledger K j).epoch.0 ≡ (ledger I j).epoch.0
     epochs = ap (λ (l : List Ledger). (get_or l j no_ledger).epoch.0) (took o v x I).ledgers
 
-    free : owed K o j ≡ false → (last_read I j o ≡ 0) ⊎ (last_read I j o < last_ack I j o)
-    free f = let r = ap number ((took o v x I).given o) in
-        let a = ap (λ (l : List Ledger). (get_or (get_or l j no_ledger).acked o none).0) (took o v x I).ledgers in
-        elim (and_cases (not (eqb (last_read K j o) 0)) (leb (last_ack K j o) (last_read K j o)) f) [
+    free : owed K o j ≡ false → (last_read I j o ≡ 0) ⊎ (last_read I j o < last_acknowledged I j o)
+    free f = let r = ap number ((took o v x I).last_read o) in
+        let a = ap (λ (l : List Ledger). (get_or (get_or l j no_ledger).last_acknowledged o none).0) (took o v x I).ledgers in
+        elim (and_cases (not (eqb (last_read K j o) 0)) (leb (last_acknowledged K j o) (last_read K j o)) f) [
           | inl e ↦ inl (omega (arith, eqb-true (last_read K j o) 0 (not-false (eqb (last_read K j o) 0) e)))
-          | inr e ↦ inr (omega (arith, leb-false (last_ack K j o) (last_read K j o) e))
+          | inr e ↦ inr (omega (arith, leb-false (last_acknowledged K j o) (last_read K j o) e))
         ]
 
 -- ---- write request: what it logs
 
 -- what holds of every invalidation that a write can log
-pub told3 : (Q : Message → Type 0) (k m o : ℕ) (J : Input) →
+pub told_write : (Q : Message → Type 0) (k m o : ℕ) (J : Input) →
     ((j : ℕ) → j < m → is_shut_out J o j ≡ false → Q (Invalidation k j o (held J o).version)) → All Q (invalidations k m o J)
-told3 Q k m o J f = each_all Q m (λ j. cond (is_shut_out J o j) [] (Invalidation k j o (held J o).version ∷ []))
+told_write Q k m o J f = each_all Q m (λ j. cond (is_shut_out J o j) [] (Invalidation k j o (held J o).version ∷ []))
     (λ j l. cond_both (is_shut_out J o j) [] (Invalidation k j o (held J o).version ∷ []) (All Q) (λ _. tt) (λ e. (f j l e, tt)))
 
 -- what holds of those and of the answer holds of all that is logged
-pub names3_below : (Q : Message → Type 0) (k p m o : ℕ) (J : Input) →
+pub names_below_write : (Q : Message → Type 0) (k p m o : ℕ) (J : Input) →
     ((j : ℕ) → j < m → is_shut_out J o j ≡ false → Q (Invalidation k j o (held J o).version)) →
     Q (WriteAnswer k p (record { 0 = set_of m (is_shut_out J o) })) → All Q (answers_write k p m o J)
-names3_below Q k p m o J f g =
-    all-++ Q (invalidations k m o J) (WriteAnswer k p (record { 0 = set_of m (is_shut_out J o) }) ∷ []) (told3 Q k m o J f) (g, tt)
+names_below_write Q k p m o J f g =
+    all-++ Q (invalidations k m o J) (WriteAnswer k p (record { 0 = set_of m (is_shut_out J o) }) ∷ []) (told_write Q k m o J f) (g, tt)
 
-pub names3 : (Q : Message → Type 0) (k p m o : ℕ) (J : Input) → ((j : ℕ) → Q (Invalidation k j o (held J o).version)) →
+pub names_write : (Q : Message → Type 0) (k p m o : ℕ) (J : Input) → ((j : ℕ) → Q (Invalidation k j o (held J o).version)) →
     Q (WriteAnswer k p (record { 0 = set_of m (is_shut_out J o) })) → All Q (answers_write k p m o J)
-names3 Q k p m o J f g = names3_below Q k p m o J (λ j l e. f j) g
+names_write Q k p m o J f g = names_below_write Q k p m o J (λ j l e. f j) g
 
 -- at most one message for each output server, and the answer
-pub length3 : (k p m o : ℕ) (J : Input) → length (answers_write k p m o J) ≤ m + 1
-length3 k p m o J =
+pub length_write : (k p m o : ℕ) (J : Input) → length (answers_write k p m o J) ≤ m + 1
+length_write k p m o J =
     let a = length-append (invalidations k m o J) (WriteAnswer k p (record { 0 = set_of m (is_shut_out J o) }) ∷ []) in
     let b = each_length m (λ j. cond (is_shut_out J o j) [] (Invalidation k j o (held J o).version ∷ []))
     (λ j. cond_both (is_shut_out J o j) [] (Invalidation k j o (held J o).version ∷ []) (λ (l : List Message). length l ≤ 1)
@@ -599,11 +599,11 @@ quiet_all i j (y ∷ r) h p (inl a) = h.0 p a
 quiet_all i j (y ∷ r) h p (inr a) = quiet_all i j r h.1 p a
 
 -- what a write logs says nothing to any channel
-pub quiet3 : (i j k p m o : ℕ) (J : Input) → Quiet i j (answers_write k p m o J)
-quiet3 i j k p m o J = quiet_all i j (answers_write k p m o J) (names3 (λ y. (q : Part) → Says i j q y → ⊥) k p m o J (λ b q h. h) (λ q h. h))
+pub quiet_write : (i j k p m o : ℕ) (J : Input) → Quiet i j (answers_write k p m o J)
+quiet_write i j k p m o J = quiet_all i j (answers_write k p m o J) (names_write (λ y. (q : Part) → Says i j q y → ⊥) k p m o J (λ b q h. h) (λ q h. h))
 
 pub quiet_invalidations : (i j k m o : ℕ) (J : Input) → Quiet i j (invalidations k m o J)
-quiet_invalidations i j k m o J = quiet_all i j (invalidations k m o J) (told3 (λ y. (q : Part) → Says i j q y → ⊥) k m o J (λ b l e q h. h))
+quiet_invalidations i j k m o J = quiet_all i j (invalidations k m o J) (told_write (λ y. (q : Part) → Says i j q y → ⊥) k m o J (λ b l e q h. h))
 
 -- what the log says after quiet messages, it said before
 pub quiet_old : (i j : ℕ) (new log : List Message) → Quiet i j new → (p : Part) → Any (Says i j p) (log ++ new) → Any (Says i j p) log
@@ -613,12 +613,12 @@ quiet_old i j new log q p h = elim (any_split (Says i j p) log new h) [ inl a �
 
 module _ (L R : ℕ) where
   -- a write request moves every channel
-  pub moves3 : (m o : ℕ) (v : Version) (x : ℕ) (I : Input) (O : Output) (i j : ℕ) (new log : List Message) →
-      InputShape I → m ≤ 8 → j < m → Quiet i j new → Moves L R (view_of I O i j log) (view_of (after_write m o v x I) O i j (log ++ new))
-  moves3 m o v x I O i j new log s few l q = in_moves L R I (after_write m o v x I) O i j new log
-      (up3 m o v x I) (epoch3 m o v x I j).0 (clock3 m o v x I) (λ p. inl (given3 m o v x I j p)) (λ p. inl (acked3 m o v x I j p))
-      (inl (ap (λ (t : Time). t.0) (until3 m o v x I j)))
-      (λ p u h. elim (outcome3 m o v x I s few j l) [
+  pub moves_write : (m o : ℕ) (v : Version) (x : ℕ) (I : Input) (O : Output) (i j : ℕ) (new log : List Message) →
+      InputShape I → m ≤ 8 → j < m → Quiet i j new → Moves L R (channel_of I O i j log) (channel_of (after_write m o v x I) O i j (log ++ new))
+  moves_write m o v x I O i j new log s few l q = in_moves L R I (after_write m o v x I) O i j new log
+      (up_write m o v x I) (epoch_write m o v x I j).0 (clock_write m o v x I) (λ p. inl (read_write m o v x I j p)) (λ p. inl (acknowledged_write m o v x I j p))
+      (inl (ap (λ (t : Time). t.0) (lease_end_write m o v x I j)))
+      (λ p u h. elim (outcome_write m o v x I s few j l) [
         | inl y ↦ inl (u, subst (Has p u) (sym y.0) h, inl (omega arith))
         | inr (inl y) ↦ elim (queued_kept pair p u (chain I j) h) [
           | inl a ↦ inl (u, subst (Has p u) (sym y.0) a, inl (omega arith))
@@ -639,13 +639,13 @@ module _ (L R : ℕ) where
       now p e = subst (λ (z : ℕ). Has z pair.version.0 (queued pair (chain I j))) e (queued_new pair (chain I j))
 
   -- right after a write the object is queued for every output server, or needs no queueing
-  pub queued3 : (m o : ℕ) (v : Version) (x : ℕ) (I : Input) (O : Output) (i j : ℕ) (new log : List Message) →
-      InputShape I → m ≤ 8 → j < m → Inv L R (view_of I O i j log) → Quiet i j new →
-      Queued (view_of (after_write m o v x I) O i j (log ++ new)) o
-  queued3 m o v x I O i j new log s few l k q = elim (outcome3 m o v x I s few j l) [
+  pub queued_write : (m o : ℕ) (v : Version) (x : ℕ) (I : Input) (O : Output) (i j : ℕ) (new log : List Message) →
+      InputShape I → m ≤ 8 → j < m → Inv L R (channel_of I O i j log) → Quiet i j new →
+      Queued (channel_of (after_write m o v x I) O i j (log ++ new)) o
+  queued_write m o v x I O i j new log s few l k q = elim (outcome_write m o v x I s few j l) [
     | inl y ↦ elim y.2 [
-      | inl z ↦ inl (given3 m o v x I j o ∙ z)
-      | inr z ↦ inr (inl (omega (arith, given3 m o v x I j o, acked3 m o v x I j o)))
+      | inl z ↦ inl (read_write m o v x I j o ∙ z)
+      | inr z ↦ inr (inl (omega (arith, read_write m o v x I j o, acknowledged_write m o v x I j o)))
     ]
     | inr (inl y) ↦ inr (inr (inl (subst (Has o (held (after_write m o v x I) o).version.0) (sym y.0)
         (queued_new (pair_of o (after_write m o v x I)) (chain I j)))))
@@ -656,11 +656,11 @@ module _ (L R : ℕ) where
 
 -- the object as it is once its version was given
 abbrev given_out : Held → Held
-given_out h = record { version = h.version; value = h.value; given = h.version }
+given_out h = record { version = h.version; value = h.value; last_read = h.version }
 
 -- the ledger of b with a lease that begins now
 abbrev leased : ℕ → ℕ → Input → Ledger
-leased L b I = record { acked = (ledger I b).acked; epoch = (ledger I b).epoch; until = record { 0 = I.clock.0 + L } }
+leased L b I = record { last_acknowledged = (ledger I b).last_acknowledged; epoch = (ledger I b).epoch; lease_end = record { 0 = I.clock.0 + L } }
 
 module _ (L b : ℕ) (r : Renewal) (I : Input) where
   -- each object is as it was, or it is the one given
@@ -677,9 +677,9 @@ module _ (L b : ℕ) (r : Renewal) (I : Input) where
       (λ _. set_from I.ledgers b j (leased L b I) no_ledger) (λ _. inl refl)
 
   -- version and value of every object stay
-  pub held7 : (p : ℕ) →
+  pub held_renewal : (p : ℕ) →
       ((held (after_renewal L b r I) p).version ≡ (held I p).version) × ((held (after_renewal L b r I) p).value ≡ (held I p).value)
-  held7 p = elim (object_from p) [
+  held_renewal p = elim (object_from p) [
     | inl e ↦ (ap (λ (h : Held). h.version) e, ap (λ (h : Held). h.value) e)
     | inr e ↦ (
       ap (λ (h : Held). h.version) e.1 ∙ ap (λ (k : ℕ). (held I k).version) e.0,
@@ -688,70 +688,70 @@ module _ (L b : ℕ) (r : Renewal) (I : Input) where
   ]
 
   -- so their clocks stay at most lc
-  pub lc7 : Clocked I → Clocked (after_renewal L b r I)
-  lc7 c p = omega (arith, c p, ap number (held7 p).0)
+  pub lc_renewal : Clocked I → Clocked (after_renewal L b r I)
+  lc_renewal c p = omega (arith, c p, ap number (held_renewal p).0)
 
   -- what was given of an object stays, or becomes the version held
-  pub given7 : (j p : ℕ) →
+  pub read_renewal : (j p : ℕ) →
       (last_read (after_renewal L b r I) j p ≡ last_read I j p) ⊎ (last_read (after_renewal L b r I) j p ≡ (held I p).version.0)
-  given7 j p = elim (object_from p) [
+  read_renewal j p = elim (object_from p) [
     | inl e ↦ inl (ap given_number e)
     | inr e ↦ inr (ap given_number e.1 ∙ ap (λ (k : ℕ). (held I k).version.0) e.0)
   ]
 
   -- it does not fall, if it is not above the version held
-  pub given_up7 : (j p : ℕ) → last_read I j p ≤ (held I p).version.0 →
+  pub read_up_renewal : (j p : ℕ) → last_read I j p ≤ (held I p).version.0 →
       (last_read I j p ≤ last_read (after_renewal L b r I) j p)
       × (last_read (after_renewal L b r I) j p ≤ (held (after_renewal L b r I) p).version.0)
-  given_up7 j p h = let u = ap number (held7 p).0 in
-      elim (given7 j p) [ inl e ↦ (omega arith, omega arith) | inr e ↦ (omega arith, omega arith) ]
+  read_up_renewal j p h = let u = ap number (held_renewal p).0 in
+      elim (read_renewal j p) [ inl e ↦ (omega arith, omega arith) | inr e ↦ (omega arith, omega arith) ]
 
   -- what is acknowledged stays, and every epoch
-  pub ackeds7 : (j : ℕ) → (ledger (after_renewal L b r I) j).acked ≡ (ledger I j).acked
-  ackeds7 j = elim (lease_from j) [
+  pub all_acknowledged_renewal : (j : ℕ) → (ledger (after_renewal L b r I) j).last_acknowledged ≡ (ledger I j).last_acknowledged
+  all_acknowledged_renewal j = elim (lease_from j) [
     | inl e ↦ ap the_acked e
-    | inr e ↦ ap the_acked e.1 ∙ ap (λ (k : ℕ). (ledger I k).acked) e.0
+    | inr e ↦ ap the_acked e.1 ∙ ap (λ (k : ℕ). (ledger I k).last_acknowledged) e.0
   ]
 
-  pub acked7 : (j p : ℕ) → last_ack (after_renewal L b r I) j p ≡ last_ack I j p
-  acked7 j p = ap (λ (l : List Version). (get_or l p none).0) (ackeds7 j)
+  pub acknowledged_renewal : (j p : ℕ) → last_acknowledged (after_renewal L b r I) j p ≡ last_acknowledged I j p
+  acknowledged_renewal j p = ap (λ (l : List Version). (get_or l p none).0) (all_acknowledged_renewal j)
 
-  pub epoch7 : (j : ℕ) → (ledger (after_renewal L b r I) j).epoch ≡ (ledger I j).epoch
-  epoch7 j = elim (lease_from j) [
+  pub epoch_renewal : (j : ℕ) → (ledger (after_renewal L b r I) j).epoch ≡ (ledger I j).epoch
+  epoch_renewal j = elim (lease_from j) [
     | inl e ↦ ap the_epoch e
     | inr e ↦ ap the_epoch e.1 ∙ ap (λ (k : ℕ). (ledger I k).epoch) e.0
   ]
 
   -- a lease's end stays, or is the server's clock and the lease length
-  pub until7 : (j : ℕ) →
-      ((ledger (after_renewal L b r I) j).until ≡ (ledger I j).until) ⊎ ((ledger (after_renewal L b r I) j).until.0 ≡ I.clock.0 + L)
-  until7 j = elim (lease_from j) [ inl e ↦ inl (ap the_until e) | inr e ↦ inr (ap (λ (l : Ledger). l.until.0) e.1) ]
+  pub lease_end_renewal : (j : ℕ) →
+      ((ledger (after_renewal L b r I) j).lease_end ≡ (ledger I j).lease_end) ⊎ ((ledger (after_renewal L b r I) j).lease_end.0 ≡ I.clock.0 + L)
+  lease_end_renewal j = elim (lease_from j) [ inl e ↦ inl (ap the_until e) | inr e ↦ inr (ap (λ (l : Ledger). l.lease_end.0) e.1) ]
 
-  pub until7_other : (j : ℕ) → (b ≡ j → ⊥) → (ledger (after_renewal L b r I) j).until ≡ (ledger I j).until
-  until7_other j n = elim (lease_from j) [ inl e ↦ ap the_until e | inr e ↦ absurd (n e.0) ]
+  pub lease_end_other_renewal : (j : ℕ) → (b ≡ j → ⊥) → (ledger (after_renewal L b r I) j).lease_end ≡ (ledger I j).lease_end
+  lease_end_other_renewal j n = elim (lease_from j) [ inl e ↦ ap the_until e | inr e ↦ absurd (n e.0) ]
 
   -- the lists keep their lengths
-  pub shape7 : InputShape I → InputShape (after_renewal L b r I)
-  shape7 s = record {
+  pub shape_renewal : InputShape I → InputShape (after_renewal L b r I)
+  shape_renewal s = record {
     objects = cond_both (asks_object r.parts) (set I.objects r.object (given_out (held I r.object))) I.objects (λ (l : List Held). length l ≡ 16)
         (λ _. length-set I.objects r.object (given_out (held I r.object)) ∙ s.objects) (λ _. s.objects);
     ledgers = cond_both (grants r.parts b I) (set I.ledgers b (leased L b I)) I.ledgers (λ (l : List Ledger). length l ≡ 8)
         (λ _. length-set I.ledgers b (leased L b I) ∙ s.ledgers) (λ _. s.ledgers);
-    acked = λ j l. ap (λ (k : List Version). length k) (ackeds7 j) ∙ s.acked j l;
+    last_acknowledged = λ j l. ap (λ (k : List Version). length k) (all_acknowledged_renewal j) ∙ s.last_acknowledged j l;
     waiting = s.waiting;
   }
 
   -- an object asked for is given at the version held
-  pub given_own7 : InputShape I → r.object < 16 → asks_object r.parts ≡ true → (j : ℕ) → last_read (after_renewal L b r I) j r.object ≡ (held I r.object).version.0
-  given_own7 s l t j = ap (λ (k : List Held). (get_or k r.object no_held).given.0)
+  pub read_own_renewal : InputShape I → r.object < 16 → asks_object r.parts ≡ true → (j : ℕ) → last_read (after_renewal L b r I) j r.object ≡ (held I r.object).version.0
+  read_own_renewal s l t j = ap (λ (k : List Held). (get_or k r.object no_held).last_read.0)
       (cond-true (asks_object r.parts) (set I.objects r.object (given_out (held I r.object))) I.objects t)
       ∙ ap given_number (get_or-set_same I.objects r.object (given_out (held I r.object)) no_held (omega (arith, s.objects)))
 
   -- a lease granted ends one lease length from now
-  pub until_own7 : InputShape I → b < 8 → grants r.parts b I ≡ true → (ledger (after_renewal L b r I) b).until.0 ≡ I.clock.0 + L
-  until_own7 s l t = ap (λ (k : List Ledger). (get_or k b no_ledger).until.0)
+  pub lease_end_own_renewal : InputShape I → b < 8 → grants r.parts b I ≡ true → (ledger (after_renewal L b r I) b).lease_end.0 ≡ I.clock.0 + L
+  lease_end_own_renewal s l t = ap (λ (k : List Ledger). (get_or k b no_ledger).lease_end.0)
       (cond-true (grants r.parts b I) (set I.ledgers b (leased L b I)) I.ledgers t)
-      ∙ ap (λ (k : Ledger). k.until.0) (get_or-set_same I.ledgers b (leased L b I) no_ledger (omega (arith, s.ledgers)))
+      ∙ ap (λ (k : Ledger). k.lease_end.0) (get_or-set_same I.ledgers b (leased L b I) no_ledger (omega (arith, s.ledgers)))
 
 -- ---- renewal request: how it moves the channels
 
@@ -762,35 +762,35 @@ shows a c t h = ap (λ (l : Pairs). list_of l) (cond-true (asks_volume a) (pairs
 
 module _ (L R : ℕ) where
   -- a renewal request of another output server
-  pub moves7_other : (b : ℕ) (r : Renewal) (I : Input) (O : Output) (i j : ℕ) (log : List Message) → (b ≡ j → ⊥) →
-      Moves L R (view_of I O i j log) (view_of (after_renewal L b r I) O i j (log ++ (answers_renewal i L b r I)))
-  moves7_other b r I O i j log n = in_moves L R I (after_renewal L b r I) O i j (answers_renewal i L b r I) log
-      (λ p. omega (arith, ap number (held7 L b r I p).0))
-      (omega (arith, ap (λ (e : Epoch). e.0) (epoch7 L b r I j)))
+  pub moves_other_renewal : (b : ℕ) (r : Renewal) (I : Input) (O : Output) (i j : ℕ) (log : List Message) → (b ≡ j → ⊥) →
+      Moves L R (channel_of I O i j log) (channel_of (after_renewal L b r I) O i j (log ++ (answers_renewal i L b r I)))
+  moves_other_renewal b r I O i j log n = in_moves L R I (after_renewal L b r I) O i j (answers_renewal i L b r I) log
+      (λ p. omega (arith, ap number (held_renewal L b r I p).0))
+      (omega (arith, ap (λ (e : Epoch). e.0) (epoch_renewal L b r I j)))
       refl
-      (λ p. elim (given7 L b r I j p) [ inl e ↦ inl e | inr e ↦ inr (e ∙ sym (ap number (held7 L b r I p).0)) ])
-      (λ p. inl (acked7 L b r I j p))
-      (inl (ap (λ (t : Time). t.0) (until7_other L b r I j n)))
+      (λ p. elim (read_renewal L b r I j p) [ inl e ↦ inl e | inr e ↦ inr (e ∙ sym (ap number (held_renewal L b r I p).0)) ])
+      (λ p. inl (acknowledged_renewal L b r I j p))
+      (inl (ap (λ (t : Time). t.0) (lease_end_other_renewal L b r I j n)))
       (λ p v h. inl (v, h, inl (omega arith)))
       (λ p h. elim h [ inl x ↦ absurd (n x.1) | inr x ↦ absurd x ])
 
   -- a renewal request of the channel's own
-  pub moves7_own : (r : Renewal) (I : Input) (O : Output) (i j : ℕ) (log : List Message) →
+  pub moves_own_renewal : (r : Renewal) (I : Input) (O : Output) (i j : ℕ) (log : List Message) →
       InputShape I → r.object < 16 → j < 8 → 1 ≤ (held I r.object).version.0 → In (RenewalRequest j i r) log →
-      Moves L R (view_of I O i j log) (view_of (after_renewal L j r I) O i j (log ++ (answers_renewal i L j r I)))
-  moves7_own r I O i j log s low few one sent = in_moves L R I (after_renewal L j r I) O i j
+      Moves L R (channel_of I O i j log) (channel_of (after_renewal L j r I) O i j (log ++ (answers_renewal i L j r I)))
+  moves_own_renewal r I O i j log s low few one sent = in_moves L R I (after_renewal L j r I) O i j
       (answers_renewal i L j r I) log
-      (λ p. omega (arith, ap number (held7 L j r I p).0))
-      (omega (arith, ap (λ (e : Epoch). e.0) (epoch7 L j r I j)))
+      (λ p. omega (arith, ap number (held_renewal L j r I p).0))
+      (omega (arith, ap (λ (e : Epoch). e.0) (epoch_renewal L j r I j)))
       refl
-      (λ p. elim (given7 L j r I j p) [ inl e ↦ inl e | inr e ↦ inr (e ∙ sym (ap number (held7 L j r I p).0)) ])
-      (λ p. inl (acked7 L j r I j p))
-      (elim (until7 L j r I j) [ inl e ↦ inl (ap (λ (t : Time). t.0) e) | inr e ↦ inr e ])
+      (λ p. elim (read_renewal L j r I j p) [ inl e ↦ inl e | inr e ↦ inr (e ∙ sym (ap number (held_renewal L j r I p).0)) ])
+      (λ p. inl (acknowledged_renewal L j r I j p))
+      (elim (lease_end_renewal L j r I j) [ inl e ↦ inl (ap (λ (t : Time). t.0) e) | inr e ↦ inr e ])
       (λ p v h. inl (v, h, inl (omega arith)))
       (λ p h. elim h [ inl x ↦ says p x.2 | inr x ↦ absurd x ])
     where
       epochs : (ledger (after_renewal L j r I) j).epoch.0 ≡ (ledger I j).epoch.0
-      epochs = ap (λ (e : Epoch). e.0) (epoch7 L j r I j)
+      epochs = ap (λ (e : Epoch). e.0) (epoch_renewal L j r I j)
 
       copies : (q v e : ℕ) → asks_object r.parts ≡ true →
           (q ≡ r.object) × (v ≡ (cond (asks_object r.parts) (held I r.object).version none).0) × (e ≡ (ledger I j).epoch.0) →
@@ -798,8 +798,8 @@ module _ (L R : ℕ) where
           × (e ≡ (ledger (after_renewal L j r I) j).epoch.0)
       copies q v e t x =
           let y = ap number (cond-true (asks_object r.parts) (held I r.object).version none t) in
-          let z = ap number (held7 L j r I r.object).0 in
-          let g = given_own7 L j r I s low t j in
+          let z = ap number (held_renewal L j r I r.object).0 in
+          let g = read_own_renewal L j r I s low t j in
           let u = ap (λ (k : ℕ). (held (after_renewal L j r I) k).version.0) x.0 in
           let w = ap (λ (k : ℕ). last_read (after_renewal L j r I) j k) x.0 in
           (omega arith, omega arith, omega arith, omega (arith, epochs))
@@ -810,7 +810,7 @@ module _ (L R : ℕ) where
       says : (p : Part) → ((asks_object r.parts ≡ true) × IsCopy r.object (cond (asks_object r.parts) (held I r.object).version none).0 (ledger I j).epoch.0 p)
           ⊎ ((asks_volume r.parts ≡ true) × (1 ≤ cond (grants r.parts j I) L 0) × IsLease r.stamp.0 (cond (grants r.parts j I) L 0) (ledger I j).epoch.0
           (list_of (cond (asks_volume r.parts) (pairs (take shown (chain I j))) (pairs []))) p) →
-          Fresh L (view_of I O i j log) (view_of (after_renewal L j r I) O i j (log ++ (answers_renewal i L j r I))) p
+          Fresh L (channel_of I O i j log) (channel_of (after_renewal L j r I) O i j (log ++ (answers_renewal i L j r I))) p
       says (asked t) h = elim h [ inl x ↦ absurd x.1 | inr x ↦ absurd x.2 ]
       says (copy q v e) h = elim h [ inl x ↦ copies q v e x.0 x.1 | inr x ↦ absurd x.2 ]
       says (lease t l e ps) h = elim h [
@@ -819,7 +819,7 @@ module _ (L R : ℕ) where
           in_any (Says i j (asked t)) (RenewalRequest j i r) log sent (refl, refl, x.0, x.2.0),
           x.2.1 ∙ cond-true (grants r.parts j I) L 0 g,
           x.2.2 ∙ sym epochs,
-          until_own7 L j r I s few g,
+          lease_end_own_renewal L j r I s few g,
           λ q v y. subst (Has q v) (sym (x.2.3 ∙ shows r.parts (chain I j) x.0
               (leb-true (length (chain I j)) 8 (and_parts (asks_volume r.parts) (leb (length (chain I j)) 8) g).1))) y,
         )
@@ -834,13 +834,13 @@ pub record Keeps10 (b : ℕ) (ps : List Pair) (I J : Input) : Type 0 where
   pub lc : J.lc ≡ I.lc
   pub clock : J.clock ≡ I.clock
   pub epoch : (j : ℕ) → (ledger J j).epoch ≡ (ledger I j).epoch
-  pub until : (j : ℕ) → (ledger J j).until ≡ (ledger I j).until
+  pub lease_end : (j : ℕ) → (ledger J j).lease_end ≡ (ledger I j).lease_end
   pub ledgers : length J.ledgers ≡ length I.ledgers
   pub waiting : length J.waiting ≡ length I.waiting
-  pub long : (j : ℕ) → length (ledger J j).acked ≡ length (ledger I j).acked
+  pub long : (j : ℕ) → length (ledger J j).last_acknowledged ≡ length (ledger I j).last_acknowledged
   -- what an output server acknowledged never falls, and the sender's rises only to a pair of the list
-  pub acked_up : (j p : ℕ) → last_ack I j p ≤ last_ack J j p
-  pub acked_from : (p : ℕ) → (last_ack J b p ≡ last_ack I b p) ⊎ Has p (last_ack J b p) ps
+  pub acked_up : (j p : ℕ) → last_acknowledged I j p ≤ last_acknowledged J j p
+  pub acked_from : (p : ℕ) → (last_acknowledged J b p ≡ last_acknowledged I b p) ⊎ Has p (last_acknowledged J b p) ps
   pub other : (j : ℕ) → (b ≡ j → ⊥) → (ledger J j ≡ ledger I j) × (chain J j ≡ chain I j)
 
 -- what the pair raises the version acknowledged of its object to
@@ -849,7 +849,7 @@ risen x l = raised (get_or l x.object none) x.version
 
 -- the ledger with what it acknowledges of one object raised
 abbrev acks : Pair → Ledger → Ledger
-acks x l = record { acked = set l.acked x.object (risen x l.acked); epoch = l.epoch; until = l.until }
+acks x l = record { last_acknowledged = set l.last_acknowledged x.object (risen x l.last_acknowledged); epoch = l.epoch; lease_end = l.lease_end }
 
 -- one place raised: it does not fall, and has what it had or the pair's version
 acks_up : (x : Pair) (l : List Version) (p : ℕ) →
@@ -871,8 +871,8 @@ acks_from x l p = elim (set_from l x.object p (risen x l) none) [
 ]
 
 -- the same for one pair
-keeps1 : (b : ℕ) (x : Pair) (I : Input) → Keeps10 b (x ∷ []) I (acknowledges b x I)
-keeps1 b x I = record {
+keeps_all : (b : ℕ) (x : Pair) (I : Input) → Keeps10 b (x ∷ []) I (acknowledges b x I)
+keeps_all b x I = record {
   objects = refl;
   lc = refl;
   clock = refl;
@@ -880,30 +880,30 @@ keeps1 b x I = record {
     | inl e ↦ ap the_epoch e
     | inr e ↦ ap the_epoch e.1 ∙ ap (λ (k : ℕ). (ledger I k).epoch) e.0
   ];
-  until = λ j. elim (from j) [
+  lease_end = λ j. elim (from j) [
     | inl e ↦ ap the_until e
-    | inr e ↦ ap the_until e.1 ∙ ap (λ (k : ℕ). (ledger I k).until) e.0
+    | inr e ↦ ap the_until e.1 ∙ ap (λ (k : ℕ). (ledger I k).lease_end) e.0
   ];
   ledgers = length-set I.ledgers b (acks x (ledger I b));
-  waiting = length-set I.waiting b (freed x.object (risen x (ledger I b).acked) (chain I b));
+  waiting = length-set I.waiting b (freed x.object (risen x (ledger I b).last_acknowledged) (chain I b));
   long = λ j. elim (from j) [
-    | inl e ↦ ap (λ (l : Ledger). length l.acked) e
-    | inr e ↦ ap (λ (l : Ledger). length l.acked) e.1
-        ∙ length-set (ledger I b).acked x.object (risen x (ledger I b).acked)
-        ∙ ap (λ (k : ℕ). length (ledger I k).acked) e.0
+    | inl e ↦ ap (λ (l : Ledger). length l.last_acknowledged) e
+    | inr e ↦ ap (λ (l : Ledger). length l.last_acknowledged) e.1
+        ∙ length-set (ledger I b).last_acknowledged x.object (risen x (ledger I b).last_acknowledged)
+        ∙ ap (λ (k : ℕ). length (ledger I k).last_acknowledged) e.0
   ];
   acked_up = λ j p. elim (from j) [
     | inl e ↦ omega (arith, ap (acked_at p) e)
-    | inr e ↦ omega (arith, ap (acked_at p) e.1, acks_up x (ledger I b).acked p, ap (λ (k : ℕ). last_ack I k p) e.0)
+    | inr e ↦ omega (arith, ap (acked_at p) e.1, acks_up x (ledger I b).last_acknowledged p, ap (λ (k : ℕ). last_acknowledged I k p) e.0)
   ];
   acked_from = λ p. elim (from b) [
     | inl e ↦ inl (ap (acked_at p) e)
-    | inr e ↦ subst (λ (l : Ledger). (acked_at p l ≡ last_ack I b p) ⊎ Has p (acked_at p l) (x ∷ [])) (sym e.1)
-        (acks_from x (ledger I b).acked p)
+    | inr e ↦ subst (λ (l : Ledger). (acked_at p l ≡ last_acknowledged I b p) ⊎ Has p (acked_at p l) (x ∷ [])) (sym e.1)
+        (acks_from x (ledger I b).last_acknowledged p)
   ];
   other = λ j n. (
     get_or-set_other I.ledgers b j (acks x (ledger I b)) no_ledger (λ d. n (sym d)),
-    get_or-set_other I.waiting b j (freed x.object (risen x (ledger I b).acked) (chain I b)) [] (λ d. n (sym d)),
+    get_or-set_other I.waiting b j (freed x.object (risen x (ledger I b).last_acknowledged) (chain I b)) [] (λ d. n (sym d)),
   );
 }
   where
@@ -911,14 +911,14 @@ keeps1 b x I = record {
     from j = set_from I.ledgers b j (acks x (ledger I b)) no_ledger
 
 -- everything but what the sender acknowledged and its chain stays
-pub keeps10 : (b : ℕ) (ps : List Pair) (I : Input) → Keeps10 b ps I (acknowledges_all b ps I)
+pub keeps_acknowledgement : (b : ℕ) (ps : List Pair) (I : Input) → Keeps10 b ps I (acknowledges_all b ps I)
 unfolding acknowledges_all
-keeps10 b [] I = record {
+keeps_acknowledgement b [] I = record {
   objects = refl;
   lc = refl;
   clock = refl;
   epoch = λ j. refl;
-  until = λ j. refl;
+  lease_end = λ j. refl;
   ledgers = refl;
   waiting = refl;
   long = λ j. refl;
@@ -926,7 +926,7 @@ keeps10 b [] I = record {
   acked_from = λ p. inl refl;
   other = λ j n. (refl, refl);
 }
-keeps10 b (x ∷ r) I = step (acknowledges b x I) (acknowledges_all b r (acknowledges b x I)) (keeps1 b x I) (keeps10 b r (acknowledges b x I))
+keeps_acknowledgement b (x ∷ r) I = step (acknowledges b x I) (acknowledges_all b r (acknowledges b x I)) (keeps_all b x I) (keeps_acknowledgement b r (acknowledges b x I))
   where
     step : (K J : Input) → Keeps10 b (x ∷ []) I K → Keeps10 b r K J → Keeps10 b (x ∷ r) I J
     step K J s t = record {
@@ -934,7 +934,7 @@ keeps10 b (x ∷ r) I = step (acknowledges b x I) (acknowledges_all b r (acknowl
       lc = t.lc ∙ s.lc;
       clock = t.clock ∙ s.clock;
       epoch = λ j. t.epoch j ∙ s.epoch j;
-      until = λ j. t.until j ∙ s.until j;
+      lease_end = λ j. t.lease_end j ∙ s.lease_end j;
       ledgers = t.ledgers ∙ s.ledgers;
       waiting = t.waiting ∙ s.waiting;
       long = λ j. t.long j ∙ s.long j;
@@ -951,90 +951,90 @@ keeps10 b (x ∷ r) I = step (acknowledges b x I) (acknowledges_all b r (acknowl
     }
 
 -- the lists keep their lengths
-pub shape10 : (b : ℕ) (ps : List Pair) (I : Input) → InputShape I → InputShape (acknowledges_all b ps I)
-shape10 b ps I s = let t = keeps10 b ps I in record {
+pub shape_acknowledgement : (b : ℕ) (ps : List Pair) (I : Input) → InputShape I → InputShape (acknowledges_all b ps I)
+shape_acknowledgement b ps I s = let t = keeps_acknowledgement b ps I in record {
   objects = ap (λ (l : List Held). length l) t.objects ∙ s.objects;
   ledgers = t.ledgers ∙ s.ledgers;
-  acked = λ j l. t.long j ∙ s.acked j l;
+  last_acknowledged = λ j l. t.long j ∙ s.last_acknowledged j l;
   waiting = t.waiting ∙ s.waiting;
 }
 
 -- every object stays
-pub held10 : (b : ℕ) (ps : List Pair) (I : Input) (p : ℕ) → held (acknowledges_all b ps I) p ≡ held I p
-held10 b ps I p = ap (λ (l : List Held). get_or l p no_held) (keeps10 b ps I).objects
+pub held_acknowledgement : (b : ℕ) (ps : List Pair) (I : Input) (p : ℕ) → held (acknowledges_all b ps I) p ≡ held I p
+held_acknowledgement b ps I p = ap (λ (l : List Held). get_or l p no_held) (keeps_acknowledgement b ps I).objects
 
-pub lc10 : (b : ℕ) (ps : List Pair) (I : Input) → Clocked I → Clocked (acknowledges_all b ps I)
-lc10 b ps I c p = omega (arith, c p, (keeps10 b ps I).lc, ap held_number (held10 b ps I p))
+pub lc_acknowledgement : (b : ℕ) (ps : List Pair) (I : Input) → Clocked I → Clocked (acknowledges_all b ps I)
+lc_acknowledgement b ps I c p = omega (arith, c p, (keeps_acknowledgement b ps I).lc, ap held_number (held_acknowledgement b ps I p))
 
-pub given10 : (b : ℕ) (ps : List Pair) (I : Input) (j p : ℕ) → last_read (acknowledges_all b ps I) j p ≡ last_read I j p
-given10 b ps I j p = ap given_number (held10 b ps I p)
+pub read_acknowledgement : (b : ℕ) (ps : List Pair) (I : Input) (j p : ℕ) → last_read (acknowledges_all b ps I) j p ≡ last_read I j p
+read_acknowledgement b ps I j p = ap given_number (held_acknowledgement b ps I p)
 
 -- one pair: a record of the sender's chain is kept, or it is acknowledged
-chain1 : (b : ℕ) (x : Pair) (I : Input) → InputShape I → b < 8 → x.object < 16 → (p u : ℕ) → Has p u (chain I b) →
-    Has p u (chain (acknowledges b x I) b) ⊎ (u ≤ last_ack (acknowledges b x I) b p)
-chain1 b x I s few low p u h = elim (freed_kept x.object (risen x (ledger I b).acked) p u (chain I b) h) [
+chain_all : (b : ℕ) (x : Pair) (I : Input) → InputShape I → b < 8 → x.object < 16 → (p u : ℕ) → Has p u (chain I b) →
+    Has p u (chain (acknowledges b x I) b) ⊎ (u ≤ last_acknowledged (acknowledges b x I) b p)
+chain_all b x I s few low p u h = elim (freed_kept x.object (risen x (ledger I b).last_acknowledged) p u (chain I b) h) [
   | inl a ↦ inl (subst (Has p u) (sym (get_or-set_same I.waiting b
-      (freed x.object (risen x (ledger I b).acked) (chain I b)) [] (omega (arith, s.waiting)))) a)
+      (freed x.object (risen x (ledger I b).last_acknowledged) (chain I b)) [] (omega (arith, s.waiting)))) a)
   | inr a ↦ inr (omega (
     arith,
     a.1,
     ap (acked_at p) (get_or-set_same I.ledgers b (acks x (ledger I b)) no_ledger (omega (arith, s.ledgers))),
-    ap (λ (k : ℕ). (get_or (acks x (ledger I b)).acked k none).0) a.0,
-    ap number (get_or-set_same (ledger I b).acked x.object (risen x (ledger I b).acked) none
-        (omega (arith, s.acked b few))),
+    ap (λ (k : ℕ). (get_or (acks x (ledger I b)).last_acknowledged k none).0) a.0,
+    ap number (get_or-set_same (ledger I b).last_acknowledged x.object (risen x (ledger I b).last_acknowledged) none
+        (omega (arith, s.last_acknowledged b few))),
   ))
 ]
 
 -- the same for the whole list
-pub chain10 : (b : ℕ) (ps : List Pair) (I : Input) → InputShape I → b < 8 → All (λ p. p.object < 16) ps → (p u : ℕ) → Has p u (chain I b) →
-    Has p u (chain (acknowledges_all b ps I) b) ⊎ (u ≤ last_ack (acknowledges_all b ps I) b p)
+pub chain_acknowledgement : (b : ℕ) (ps : List Pair) (I : Input) → InputShape I → b < 8 → All (λ p. p.object < 16) ps → (p u : ℕ) → Has p u (chain I b) →
+    Has p u (chain (acknowledges_all b ps I) b) ⊎ (u ≤ last_acknowledged (acknowledges_all b ps I) b p)
 unfolding acknowledges_all
-chain10 b [] I s few low p u h = inl h
-chain10 b (x ∷ r) I s few low p u h = elim (chain1 b x I s few low.0 p u h) [
-  | inl a ↦ chain10 b r (acknowledges b x I) (shape10 b (x ∷ []) I s) few low.1 p u a
-  | inr a ↦ inr (omega (arith, a, (keeps10 b r (acknowledges b x I)).acked_up b p))
+chain_acknowledgement b [] I s few low p u h = inl h
+chain_acknowledgement b (x ∷ r) I s few low p u h = elim (chain_all b x I s few low.0 p u h) [
+  | inl a ↦ chain_acknowledgement b r (acknowledges b x I) (shape_acknowledgement b (x ∷ []) I s) few low.1 p u a
+  | inr a ↦ inr (omega (arith, a, (keeps_acknowledgement b r (acknowledges b x I)).acked_up b p))
 ]
 
 -- ---- invalidation answer: how it moves the channels
 
 module _ (L R : ℕ) where
   -- an invalidation answer of another output server
-  pub moves10_other : (b : ℕ) (ps : List Pair) (I : Input) (O : Output) (i j : ℕ) (log : List Message) → (b ≡ j → ⊥) →
-      Moves L R (view_of I O i j log) (view_of (acknowledges_all b ps I) O i j log)
-  moves10_other b ps I O i j log n =
-      subst (λ (l : List Message). Moves L R (view_of I O i j log) (view_of (acknowledges_all b ps I) O i j l)) (append-nil log)
+  pub moves_other_acknowledgement : (b : ℕ) (ps : List Pair) (I : Input) (O : Output) (i j : ℕ) (log : List Message) → (b ≡ j → ⊥) →
+      Moves L R (channel_of I O i j log) (channel_of (acknowledges_all b ps I) O i j log)
+  moves_other_acknowledgement b ps I O i j log n =
+      subst (λ (l : List Message). Moves L R (channel_of I O i j log) (channel_of (acknowledges_all b ps I) O i j l)) (append-nil log)
       (in_moves L R I (acknowledges_all b ps I) O i j [] log
-      (λ p. omega (arith, ap held_number (held10 b ps I p)))
+      (λ p. omega (arith, ap held_number (held_acknowledgement b ps I p)))
       (omega (arith, ap (λ (e : Epoch). e.0) (t.epoch j)))
       t.clock
-      (λ p. inl (given10 b ps I j p))
+      (λ p. inl (read_acknowledgement b ps I j p))
       (λ p. inl (ap (acked_at p) (t.other j n).0))
-      (inl (ap (λ (e : Time). e.0) (t.until j)))
+      (inl (ap (λ (e : Time). e.0) (t.lease_end j)))
       (λ p v h. inl (v, subst (Has p v) (sym (t.other j n).1) h, inl (omega arith)))
       (λ p h. absurd h))
     where
       t : Keeps10 b ps I (acknowledges_all b ps I)
-      t = keeps10 b ps I
+      t = keeps_acknowledgement b ps I
 
   -- an invalidation answer of the channel's own
-  pub moves10_own : (l : Pairs) (I : Input) (O : Output) (i j : ℕ) (log : List Message) →
+  pub moves_own_acknowledgement : (l : Pairs) (I : Input) (O : Output) (i j : ℕ) (log : List Message) →
       InputShape I → j < 8 → All (λ p. p.object < 16) (list_of l) → In (InvalidationAnswer j i l) log →
-      Moves L R (view_of I O i j log) (view_of (acknowledges_all j (list_of l) I) O i j log)
-  moves10_own l I O i j log s few low sent =
-      subst (λ (r : List Message). Moves L R (view_of I O i j log) (view_of (acknowledges_all j (list_of l) I) O i j r)) (append-nil log)
+      Moves L R (channel_of I O i j log) (channel_of (acknowledges_all j (list_of l) I) O i j log)
+  moves_own_acknowledgement l I O i j log s few low sent =
+      subst (λ (r : List Message). Moves L R (channel_of I O i j log) (channel_of (acknowledges_all j (list_of l) I) O i j r)) (append-nil log)
       (in_moves L R I (acknowledges_all j (list_of l) I) O i j [] log
-      (λ p. omega (arith, ap held_number (held10 j (list_of l) I p)))
+      (λ p. omega (arith, ap held_number (held_acknowledgement j (list_of l) I p)))
       (omega (arith, ap (λ (e : Epoch). e.0) (t.epoch j)))
       t.clock
-      (λ p. inl (given10 j (list_of l) I j p))
+      (λ p. inl (read_acknowledgement j (list_of l) I j p))
       (λ p. elim (t.acked_from p) [
         | inl e ↦ inl e
-        | inr h ↦ inr (in_any (Says i j (answer p (last_ack (acknowledges_all j (list_of l) I) j p)))
+        | inr h ↦ inr (in_any (Says i j (answer p (last_acknowledged (acknowledges_all j (list_of l) I) j p)))
             (InvalidationAnswer j i l) log sent (refl, refl, h))
       ])
-      (inl (ap (λ (e : Time). e.0) (t.until j)))
-      (λ p v h. elim (chain10 j (list_of l) I s few low p v h) [ inl a ↦ inl (v, a, inl (omega arith)) | inr a ↦ inr (inl a) ])
+      (inl (ap (λ (e : Time). e.0) (t.lease_end j)))
+      (λ p v h. elim (chain_acknowledgement j (list_of l) I s few low p v h) [ inl a ↦ inl (v, a, inl (omega arith)) | inr a ↦ inr (inl a) ])
       (λ p h. absurd h))
     where
       t : Keeps10 j (list_of l) I (acknowledges_all j (list_of l) I)
-      t = keeps10 j (list_of l) I
+      t = keeps_acknowledgement j (list_of l) I

@@ -13,9 +13,9 @@ use Rattle.rules.specs.Input.{Input, held, after_write, after_renewal, acknowled
 use Rattle.rules.specs.Lists.{list_of}
 use Rattle.rules.specs.Operation.{Operation, asking, reading, first_asking, first_reading}
 use Rattle.rules.specs.Output.{Output, newest_of, after_answer, after_invalidation}
-use Rattle.guarantee.proofs.View.{Inv}
+use Rattle.guarantee.proofs.Channel.{Inv}
 use Rattle.guarantee.proofs.Fence.{invariant, stable}
-use Rattle.guarantee.proofs.Channel.{InputShape, OutputShape}
+use Rattle.guarantee.proofs.ChannelOf.{InputShape, OutputShape}
 use Rattle.guarantee.proofs.InputMoves as Ins
 use Rattle.guarantee.proofs.InputMoves.{Clocked}
 use Rattle.guarantee.proofs.Kept.{slow, view, Begun, Genuine, Wrote, Reads, MsgOk, Small, Kept, May, Grows}
@@ -23,27 +23,27 @@ use Rattle.guarantee.proofs.Operations.{wrote_up, reads_up, moved_op}
 use Rattle.guarantee.proofs.OutputMoves as Outs
 use Rattle.guarantee.proofs.Steps.{moves}
 use Rattle.guarantee.proofs.Words.{at, at_cases, at_miss, In, all_at, any_old}
-use Rattle.guarantee.proofs.World.{Params, World, Act, ticks, writes, reads, hears, run, reaction}
+use Rattle.guarantee.proofs.PlainState.{Params, PlainState, Act, ticks, writes, reads, hears, run, reaction}
 
 -- ---- what a step leaves of a server
 
-pub record InputStep (W : World) (I J : Input) : Type 0 where
+pub record InputStep (W : PlainState) (I J : Input) : Type 0 where
   pub lc_up : I.lc ≤ J.lc
   pub shape : InputShape I → InputShape J
   pub clocked : Clocked I → Clocked J
   pub held : (o : ℕ) → (((held J o).version ≡ (held I o).version) × ((held J o).value ≡ (held I o).value)) ⊎ Genuine W o (held J o).version (held J o).value
 
-pub record OutputStep (W : World) (O Q : Output) : Type 0 where
+pub record OutputStep (W : PlainState) (O Q : Output) : Type 0 where
   pub shape : OutputShape O → OutputShape Q
   pub newest : (o : ℕ) → (newest_of Q o ≡ newest_of O o) ⊎ Genuine W o (newest_of Q o).version (newest_of Q o).value
 
-input_same : (W : World) (I : Input) → InputStep W I I
+input_same : (W : PlainState) (I : Input) → InputStep W I I
 input_same W I = record { lc_up = omega arith; shape = λ s. s; clocked = λ c. c; held = λ o. inl (refl, refl) }
 
-output_same : (W : World) (O : Output) → OutputStep W O O
+output_same : (W : PlainState) (O : Output) → OutputStep W O O
 output_same W O = record { shape = λ s. s; newest = λ o. inl refl }
 
-module _ (P : Params) (small : Small P) (W : World) (k : Kept P W) where
+module _ (P : Params) (small : Small P) (W : PlainState) (k : Kept P W) where
   -- one input server changed, and the others did not
   one_input : (a : ℕ) (J : Input) → InputStep W (W.inp a) J → (i : ℕ) → InputStep W (W.inp i) (at a J W.inp i)
   one_input a J h i = at_cases (λ X. InputStep W (W.inp i) X) a i J W.inp
@@ -59,10 +59,10 @@ module _ (P : Params) (small : Small P) (W : World) (k : Kept P W) where
   input_write : (p a o : ℕ) (v : Version) (x : ℕ) → In (WriteRequest p a o v x) W.sent
       → InputStep W (W.inp a) (after_write P.counts.m o v x (W.inp a))
   input_write p a o v x sent = record {
-    lc_up = (Ins.lc3 P.counts.m o v x (W.inp a)).0;
-    shape = Ins.shape3 P.counts.m o v x (W.inp a);
-    clocked = (Ins.lc3 P.counts.m o v x (W.inp a)).1;
-    held = λ q. elim (Ins.held3 P.counts.m o v x (W.inp a) q) [
+    lc_up = (Ins.lc_write P.counts.m o v x (W.inp a)).0;
+    shape = Ins.shape_write P.counts.m o v x (W.inp a);
+    clocked = (Ins.lc_write P.counts.m o v x (W.inp a)).1;
+    held = λ q. elim (Ins.held_write P.counts.m o v x (W.inp a) q) [
       | inl e ↦ inl e
       | inr e ↦ inr (inr (
         p,
@@ -84,23 +84,23 @@ module _ (P : Params) (small : Small P) (W : World) (k : Kept P W) where
   input_renewal : (b : ℕ) (r : Renewal) (I : Input) → InputStep W I (after_renewal P.lease b r I)
   input_renewal b r I = record {
     lc_up = omega arith;
-    shape = Ins.shape7 P.lease b r I;
-    clocked = Ins.lc7 P.lease b r I;
-    held = λ q. inl (Ins.held7 P.lease b r I q);
+    shape = Ins.shape_renewal P.lease b r I;
+    clocked = Ins.lc_renewal P.lease b r I;
+    held = λ q. inl (Ins.held_renewal P.lease b r I q);
   }
 
   input_ack : (b : ℕ) (l : Pairs) (I : Input) → InputStep W I (acknowledges_all b (list_of l) I)
-  input_ack b l I = let t = Ins.keeps10 b (list_of l) I in record {
+  input_ack b l I = let t = Ins.keeps_acknowledgement b (list_of l) I in record {
     lc_up = omega (arith, t.lc);
-    shape = Ins.shape10 b (list_of l) I;
-    clocked = Ins.lc10 b (list_of l) I;
-    held = λ q. inl (ap (λ (h : Held). h.version) (Ins.held10 b (list_of l) I q), ap (λ (h : Held). h.value) (Ins.held10 b (list_of l) I q));
+    shape = Ins.shape_acknowledgement b (list_of l) I;
+    clocked = Ins.lc_acknowledgement b (list_of l) I;
+    held = λ q. inl (ap (λ (h : Held). h.version) (Ins.held_acknowledgement b (list_of l) I q), ap (λ (h : Held). h.value) (Ins.held_acknowledgement b (list_of l) I q));
   }
 
   pub inputs_step : (a : Act) → May P a W → (i : ℕ) → InputStep W (W.inp i) ((run P a W).inp i)
   inputs_step (ticks x y) h i = record {
     lc_up = omega arith;
-    shape = λ s. record { objects = s.objects; ledgers = s.ledgers; acked = s.acked; waiting = s.waiting };
+    shape = λ s. record { objects = s.objects; ledgers = s.ledgers; last_acknowledged = s.last_acknowledged; waiting = s.waiting };
     clocked = λ c. c;
     held = λ o. inl (refl, refl);
   }
@@ -121,8 +121,8 @@ module _ (P : Params) (small : Small P) (W : World) (k : Kept P W) where
       → In (RenewalAnswer a b y) W.sent → (O : Output)
       → OutputStep W O (after_answer P.drift a y O)
   output_answer a b y sent O = record {
-    shape = Outs.shape8 P.drift a y O;
-    newest = λ q. elim (Outs.newest8 P.drift a y O q) [
+    shape = Outs.shape_renewed P.drift a y O;
+    newest = λ q. elim (Outs.newest_renewed P.drift a y O q) [
       | inl d ↦ inl d
       | inr d ↦ inr (wanted q (newest_of (after_answer P.drift a y O) q).version
           (newest_of (after_answer P.drift a y O) q).value d.0 d.2 d.3
@@ -154,7 +154,7 @@ module _ (P : Params) (small : Small P) (W : World) (k : Kept P W) where
       one_output b (after_answer P.drift a y (W.out b)) (output_answer a b y h.0 (W.out b)) j
   outputs_step (hears (Invalidation a b o v)) h j =
       one_output b (after_invalidation a o v (W.out b))
-      (record { shape = Outs.shape9 a o v (W.out b); newest = λ q. inl (Outs.newest9 a o v (W.out b) q) }) j
+      (record { shape = Outs.shape_invalidation a o v (W.out b); newest = λ q. inl (Outs.newest_invalidation a o v (W.out b) q) }) j
   outputs_step (hears (InvalidationAnswer b a l)) h j = output_same W (W.out j)
 
   -- ---- nothing is taken back

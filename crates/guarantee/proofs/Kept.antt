@@ -11,32 +11,32 @@ use Rattle.rules.specs.Operation.{Operation, unused, asking, sending, reading, e
 use Rattle.rules.specs.Output.{newest_of}
 use Rattle.rules.specs.Ranges.{numbers_fit}
 use Rattle.rules.specs.Renewals.{asks_object}
-use Rattle.guarantee.proofs.View.{View, Inv, Fenced}
-use Rattle.guarantee.proofs.Channel.{view_of, InputShape, OutputShape}
+use Rattle.guarantee.proofs.Channel.{Channel, Inv, Fenced}
+use Rattle.guarantee.proofs.ChannelOf.{channel_of, InputShape, OutputShape}
 use Rattle.guarantee.proofs.Words.{In, All}
-use Rattle.guarantee.proofs.World.{Params, World, Act, ticks, writes, reads, hears}
+use Rattle.guarantee.proofs.PlainState.{Params, PlainState, Act, ticks, writes, reads, hears}
 
 abbrev pub slow : Params → ℕ
 slow P = 1000 - P.drift
 
-abbrev pub view : World → ℕ → ℕ → View
-view W i j = view_of (W.inp i) (W.out j) i j W.sent
+abbrev pub view : PlainState → ℕ → ℕ → Channel
+view W i j = channel_of (W.inp i) (W.out j) i j W.sent
 
 -- ---- words
 
-abbrev pub Begun : World → ℕ → Type 0
+abbrev pub Begun : PlainState → ℕ → Type 0
 Begun W p = (1 ≤ p) × (p ≤ W.begun)
 
 -- the write p sent requests of that object, version and value
-abbrev pub Requested : World → ℕ → ℕ → Version → ℕ → Type 0
+abbrev pub Requested : PlainState → ℕ → ℕ → Version → ℕ → Type 0
 Requested W p o v x = (i : ℕ) × In (WriteRequest p i o v x) W.sent
 
 -- the read p sent requests of that object
-abbrev pub AskedFor : World → ℕ → ℕ → Type 0
+abbrev pub AskedFor : PlainState → ℕ → ℕ → Type 0
 AskedFor W p o = (j : ℕ) × In (ReadRequest p j o) W.sent
 
 -- the pair is the starting pair of the object, or that of a write of it
-abbrev pub Genuine : World → ℕ → Version → ℕ → Type 0
+abbrev pub Genuine : PlainState → ℕ → Version → ℕ → Type 0
 Genuine W o v x = ((v ≡ starting) × (x ≡ 0)) ⊎ ((p : ℕ) × Requested W p o v x)
 
 -- an operation that has sent write requests is that write, or has ended
@@ -56,26 +56,26 @@ Reads (reading r) o = r.object ≡ o
 Reads ended o = Unit {0}
 
 -- what a write leaves at an input server for an output server that it calls shut out: the fence, and the clock taken
-pub record Stands (P : Params) (W : World) (i j o w : ℕ) : Type 0 where
+pub record Stands (P : Params) (W : PlainState) (i j o w : ℕ) : Type 0 where
   pub fence : Fenced (slow P) (view W i j) o w
   pub clock : w / 65536 ≤ (W.inp i).lc
 
 -- every output server that is named stands behind a fence
-abbrev pub Named : Params → World → ℕ → ℕ → List MemberSet → Type 0
+abbrev pub Named : Params → PlainState → ℕ → ℕ → List MemberSet → Type 0
 Named P W o w N =
     (i j : ℕ) → has (named_by N i) j ≡ true → i < P.counts.n → j < P.counts.m → Stands P W i j o w
 
 -- each sender's clock answer is there, and its clock is not above
-abbrev pub Clocks : World → ℕ → ℕ → ℕ → Type 0
+abbrev pub Clocks : PlainState → ℕ → ℕ → ℕ → Type 0
 Clocks W p A d = (i : ℕ) → has A i ≡ true → (c : ℕ) × In (ClockAnswer i p c) W.sent × (c ≤ d)
 
 -- each sender's read answer is there, and its version is not above
-abbrev pub Heard : World → ℕ → ℕ → ℕ → Type 0
+abbrev pub Heard : PlainState → ℕ → ℕ → ℕ → Type 0
 Heard W p A r = (j : ℕ) → has A j ≡ true → (v : Version) × (x : ℕ) × In (ReadAnswer j p v x) W.sent × (v.0 ≤ r)
 
 -- ---- messages and operations
 
-abbrev pub MsgOk : Params → World → Message → Type 0
+abbrev pub MsgOk : Params → PlainState → Message → Type 0
 MsgOk P W (ClockQuestion p i) = Begun W p
 MsgOk P W (ClockAnswer i p c) = Begun W p
 MsgOk P W (WriteRequest p i o v x) = Begun W p × Wrote (W.op p) o v x
@@ -90,21 +90,21 @@ MsgOk P W (RenewalAnswer i j y) = asks_object y.renewal.parts ≡ true → Genui
 MsgOk P W (Invalidation i j o v) = Unit {0}
 MsgOk P W (InvalidationAnswer j i l) = Unit {0}
 
-pub record AskingOk (W : World) (p : ℕ) (a : Asking) : Type 0 where
+pub record AskingOk (W : PlainState) (p : ℕ) (a : Asking) : Type 0 where
   pub own : a.operation ≡ p
   pub clocks : Clocks W p a.senders a.clock
 
-pub record SendingOk (P : Params) (W : World) (p : ℕ) (w : Sending) : Type 0 where
+pub record SendingOk (P : Params) (W : PlainState) (p : ℕ) (w : Sending) : Type 0 where
   pub own : w.operation ≡ p
   pub named : Named P W w.object w.version.0 w.named
   pub asked : Requested W p w.object w.version w.value
 
-pub record ReadingOk (W : World) (p : ℕ) (r : Reading) : Type 0 where
+pub record ReadingOk (W : PlainState) (p : ℕ) (r : Reading) : Type 0 where
   pub own : r.operation ≡ p
   pub heard : Heard W p r.senders r.version.0
   pub genuine : (r.version.0 ≡ 0) ⊎ Genuine W r.object r.version r.value
 
-abbrev pub OpOk : Params → World → ℕ → Operation → Type 0
+abbrev pub OpOk : Params → PlainState → ℕ → Operation → Type 0
 OpOk P W p unused = Unit {0}
 OpOk P W p (asking a) = AskingOk W p a
 OpOk P W p (sending w) = SendingOk P W p w
@@ -122,7 +122,7 @@ pub record Small (P : Params) : Type 0 where
   pub n_is : P.inputs.count ≡ P.counts.n
   pub m_is : P.outputs.count ≡ P.counts.m
 
-pub record Kept (P : Params) (W : World) : Type 0 where
+pub record Kept (P : Params) (W : PlainState) : Type 0 where
   pub chans : (i j : ℕ) → i < P.counts.n → j < P.counts.m → Inv P.lease (slow P) (view W i j)
   pub in_shape : (i : ℕ) → i < P.counts.n → InputShape (W.inp i)
   pub out_shape : (j : ℕ) → j < P.counts.m → OutputShape (W.out j)
@@ -135,7 +135,7 @@ pub record Kept (P : Params) (W : World) : Type 0 where
   pub ops : (p : ℕ) → Begun W p → OpOk P W p (W.op p)
 
 -- when a call is accepted
-abbrev pub May : Params → Act → World → Type 0
+abbrev pub May : Params → Act → PlainState → Type 0
 May P (ticks x y) W = (i j : ℕ) → i < P.counts.n → j < P.counts.m → slow P * x i ≤ 1000 * y j
 May P (writes o x) W = Unit {0}
 May P (reads o) W = Unit {0}
@@ -143,14 +143,14 @@ May P (hears m) W = In m W.sent × (numbers_fit P.counts m ≡ true)
 
 -- ---- what no call takes back
 
-pub record Grows (P : Params) (W V : World) : Type 0 where
+pub record Grows (P : Params) (W V : PlainState) : Type 0 where
   pub stands : (i j o w : ℕ) → i < P.counts.n → j < P.counts.m → Stands P W i j o w → Stands P V i j o w
   pub sent : (m : Message) → In m W.sent → In m V.sent
   pub wrote : (p o : ℕ) (v : Version) (x : ℕ) → Begun W p → Wrote (W.op p) o v x → Wrote (V.op p) o v x
   pub reads : (p o : ℕ) → Begun W p → Reads (W.op p) o → Reads (V.op p) o
   pub begun : W.begun ≤ V.begun
 
-module _ (P : Params) (W V : World) (g : Grows P W V) where
+module _ (P : Params) (W V : PlainState) (g : Grows P W V) where
   pub begun_grows : (p : ℕ) → Begun W p → Begun V p
   begun_grows p h = (h.0, omega (arith, g.begun))
 

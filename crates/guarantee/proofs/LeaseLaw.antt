@@ -7,14 +7,14 @@ use Rattle.numbers.specs.Numbers.{lease_end}
 use Rattle.rules.specs.State.{output_at}
 use Rattle.guarantee.specs.Leases.{LeasesRunOut}
 use Rattle.guarantee.specs.Story.{before}
-use Rattle.guarantee.proofs.Bridge.{params_of}
-use Rattle.guarantee.proofs.Channel.{Says}
+use Rattle.guarantee.proofs.CallEffects.{params_of}
+use Rattle.guarantee.proofs.ChannelOf.{Says}
 use Rattle.guarantee.proofs.Fence.{over}
 use Rattle.guarantee.proofs.Kept.{view, Kept}
 use Rattle.guarantee.proofs.Stories.{has_in, fine}
-use Rattle.guarantee.proofs.View.{lease}
+use Rattle.guarantee.proofs.Channel.{lease}
 use Rattle.guarantee.proofs.Words.{in_any}
-use Rattle.guarantee.proofs.World.{Params, world_of}
+use Rattle.guarantee.proofs.PlainState.{Params, plain_of}
 
 pub leases_run_out : LeasesRunOut
 leases_run_out S il ol closed t h is_open i j i<n j<m waited y asks some sent = elim (fine S il ol closed t h) [
@@ -22,11 +22,11 @@ leases_run_out S il ol closed t h is_open i j i<n j<m waited y asks some sent = 
   | inr k ↦ ends k.live.params k.live.kept
 ]
   where
-    ends : {P : Params} → params_of S.inputs S.outputs (before S t) ≡ P → Kept P (world_of (before S t))
+    ends : {P : Params} → params_of S.inputs S.outputs (before S t) ≡ P → Kept P (plain_of (before S t))
         → (lease_end y.renewal.stamp.0 y.length (before S t).frame.drift).0 ≤ (output_at (before S t) j).clock.0
     ends p kept =
-        let k = subst (λ (Q : Params). Kept Q (world_of (before S t))) (sym p) kept in
-        over (before S t).frame.lease (1000 - (before S t).frame.drift) (view (world_of (before S t)) i j) (k.chans i j i<n j<m) waited
+        let k = subst (λ (Q : Params). Kept Q (plain_of (before S t))) (sym p) kept in
+        over (before S t).frame.lease (1000 - (before S t).frame.drift) (view (plain_of (before S t)) i j) (k.chans i j i<n j<m) waited
         y.renewal.stamp.0 y.length y.epoch.0 (list_of y.list)
         (in_any (Says i j (lease y.renewal.stamp.0 y.length y.epoch.0 (list_of y.list))) (RenewalAnswer i j y) (take (before S t).made (before S t).log)
         (has_in (RenewalAnswer i j y) (take (before S t).made (before S t).log) sent)

@@ -14,10 +14,10 @@ use Rattle.rules.specs.Operation.{Operation, asking, sending, reading, Asking, S
 use Rattle.rules.specs.Reaction.{Reaction}
 use Rattle.rules.proofs.Reactions.{every_reaction}
 use Rattle.rules.specs.Output.{newest_of, valid, covers, good, answers_read, acknowledgement}
-use Rattle.guarantee.proofs.View.{Inv, Fenced}
+use Rattle.guarantee.proofs.Channel.{Inv, Fenced}
 use Rattle.guarantee.proofs.Fence.{establish}
-use Rattle.guarantee.proofs.Channel.{view_of}
-use Rattle.guarantee.proofs.Fits.{fits_clock, fits_request, fits_read, fits_pair, fits_renewal}
+use Rattle.guarantee.proofs.ChannelOf.{channel_of}
+use Rattle.guarantee.proofs.RangeFacts.{fits_clock, fits_request, fits_read, fits_pair, fits_renewal}
 use Rattle.guarantee.proofs.InputMoves as Ins
 use Rattle.guarantee.proofs.OutputMoves as Outs
 use Rattle.guarantee.proofs.Keeps.{inputs_step, outputs_step, chans_next, grows}
@@ -27,13 +27,13 @@ use Rattle.guarantee.proofs.Reacting.{reacts_gets}
 use Rattle.guarantee.proofs.Sets.{has_none, of_set_of, of_joined}
 use Rattle.guarantee.proofs.Steps.{moves}
 use Rattle.guarantee.proofs.Words.{at, at_cases, at_same, In, All, all_map, all-++, all_at, any_old, any_new, each_all, any_each}
-use Rattle.guarantee.proofs.World.{Params, World, Act, ticks, writes, reads, hears, run, reaction, answered}
+use Rattle.guarantee.proofs.PlainState.{Params, PlainState, Act, ticks, writes, reads, hears, run, reaction, answered}
 
-module _ (P : Params) (small : Small P) (lawful : Lawful P.inputs) (W : World) (k : Kept P W) where
+module _ (P : Params) (small : Small P) (lawful : Lawful P.inputs) (W : PlainState) (k : Kept P W) where
   msg_at : (m : Message) → In m W.sent → MsgOk P W m
   msg_at m h = all_at (MsgOk P W) m W.sent k.msgs h
 
-  abbrev pub next : Act → World
+  abbrev pub next : Act → PlainState
   next a = run P a W
 
   few : (x : ℕ) → x < P.counts.k → x < 16
@@ -54,12 +54,12 @@ module _ (P : Params) (small : Small P) (lawful : Lawful P.inputs) (W : World) (
   writes_news : (a p o : ℕ) (v : Version) (x : ℕ) → (h : May P (hears (WriteRequest p a o v x)) W)
       → All (MsgOk P (next (hears (WriteRequest p a o v x))))
       (answers_write a p P.counts.m o (after_write P.counts.m o v x (W.inp a)))
-  writes_news a p o v x h = Ins.names3 (MsgOk P V) a p P.counts.m o J (λ _. tt) (
+  writes_news a p o v x h = Ins.names_write (MsgOk P V) a p P.counts.m o J (λ _. tt) (
     (msg_at (WriteRequest p a o v x) h.0).0,
     (o, v, x, (a, any_old (λ z. WriteRequest p a o v x ≡ z) W.sent new h.0), λ j b i<n j<m. stood j (of_set_of P.counts.m (is_shut_out J o) j b).1 i<n j<m),
   )
     where
-      V : World
+      V : PlainState
       V = next (hears (WriteRequest p a o v x))
 
       J : Input
@@ -69,19 +69,19 @@ module _ (P : Params) (small : Small P) (lawful : Lawful P.inputs) (W : World) (
       new = answers_write a p P.counts.m o J
 
       fenced : (j : ℕ) → is_shut_out J o j ≡ true → (i<n : a < P.counts.n) → (j<m : j < P.counts.m)
-          → Inv P.lease (slow P) (view_of J (W.out j) a j (W.sent ++ new))
-          → Fenced (slow P) (view_of J (W.out j) a j (W.sent ++ new)) o v.0
-      fenced j s i<n j<m inv = establish P.lease (slow P) (view_of J (W.out j) a j (W.sent ++ new)) o v.0 inv
+          → Inv P.lease (slow P) (channel_of J (W.out j) a j (W.sent ++ new))
+          → Fenced (slow P) (channel_of J (W.out j) a j (W.sent ++ new)) o v.0
+      fenced j s i<n j<m inv = establish P.lease (slow P) (channel_of J (W.out j) a j (W.sent ++ new)) o v.0 inv
           (Ins.shut_shut J (W.out j) a j (W.sent ++ new) o s)
-          (Ins.queued3 P.lease (slow P) P.counts.m o v x (W.inp a) (W.out j) a j new W.sent (k.in_shape a i<n) small.m_most j<m
-          (k.chans a j i<n j<m) (Ins.quiet3 a j a p P.counts.m o J))
-          (Ins.holds3 P.counts.m o v x (W.inp a) (k.in_shape a i<n) (few o (fits_request P.counts p a o v x h.1).object))
+          (Ins.queued_write P.lease (slow P) P.counts.m o v x (W.inp a) (W.out j) a j new W.sent (k.in_shape a i<n) small.m_most j<m
+          (k.chans a j i<n j<m) (Ins.quiet_write a j a p P.counts.m o J))
+          (Ins.holds_write P.counts.m o v x (W.inp a) (k.in_shape a i<n) (few o (fits_request P.counts p a o v x h.1).object))
 
       stood : (j : ℕ) → is_shut_out J o j ≡ true → a < P.counts.n → j < P.counts.m → Stands P V a j o v.0
       stood j s i<n j<m = record {
-        fence = subst (λ (X : Input). Inv P.lease (slow P) (view_of X (W.out j) a j (W.sent ++ new)) → Fenced (slow P) (view_of X (W.out j) a j (W.sent ++ new)) o v.0)
+        fence = subst (λ (X : Input). Inv P.lease (slow P) (channel_of X (W.out j) a j (W.sent ++ new)) → Fenced (slow P) (channel_of X (W.out j) a j (W.sent ++ new)) o v.0)
             (sym (at_same a J W.inp)) (fenced j s i<n j<m) (chans_next P small W k (hears (WriteRequest p a o v x)) h a j i<n j<m);
-        clock = subst (λ (X : Input). v.0 / 65536 ≤ X.lc) (sym (at_same a J W.inp)) ((Ins.lc3 P.counts.m o v x (W.inp a)).2 (k.lc a i<n));
+        clock = subst (λ (X : Input). v.0 / 65536 ≤ X.lc) (sym (at_same a J W.inp)) ((Ins.lc_write P.counts.m o v x (W.inp a)).2 (k.lc a i<n));
       }
 
   -- a write that knows the clock becomes a sending write, which its requests agree with
@@ -120,7 +120,7 @@ module _ (P : Params) (small : Small P) (lawful : Lawful P.inputs) (W : World) (
       → All (MsgOk P (next (hears (ReadRequest p b o)))) (answers_read P.inputs b p P.counts.n o (W.out b))
   read_news p b o h = Outs.read_all P.inputs b p P.counts.n o (W.out b) (MsgOk P V) answer (λ _ _. tt)
     where
-      V : World
+      V : PlainState
       V = next (hears (ReadRequest p b o))
 
       g : Grows P W V
@@ -206,7 +206,7 @@ module _ (P : Params) (small : Small P) (lawful : Lawful P.inputs) (W : World) (
       asked = (0, subst (λ (q : ℕ). In (WriteRequest q 0 w.object w.version w.value) V.sent) ok.own request);
     }
       where
-        V : World
+        V : PlainState
         V = next (hears (ClockAnswer a p c))
 
         w : Sending
@@ -231,7 +231,7 @@ module _ (P : Params) (small : Small P) (lawful : Lawful P.inputs) (W : World) (
         (same said.0 said.1 said.2 said.3 j (said.4 j s.1 (subst (λ (z : ℕ). z < P.counts.n) (sym s.0) i<n) j<m)))
   ]
     where
-      V : World
+      V : PlainState
       V = next (hears (WriteAnswer a p t))
 
       g : Grows P W V
@@ -290,7 +290,7 @@ module _ (P : Params) (small : Small P) (lawful : Lawful P.inputs) (W : World) (
     ];
   }
     where
-      V : World
+      V : PlainState
       V = next (hears (ReadAnswer b p v x))
 
       g : Grows P W V

@@ -12,7 +12,7 @@ use Rattle.rules.specs.declared.kept.Newest.{Newest}
 use Rattle.rules.specs.declared.pairs.Pair.{Pair}
 use Rattle.numbers.specs.declared.time.Time.{Time}
 use Rattle.rules.specs.Calls.{opening, advancing, beginning_write, beginning_read, delivering, opened, start_clock, clocks_fit}
-use Rattle.rules.specs.Input.{Input, no_held, no_ledger, held, ledger, last_read, last_ack, first_input}
+use Rattle.rules.specs.Input.{Input, no_held, no_ledger, held, ledger, last_read, last_acknowledged, first_input}
 use Rattle.rules.specs.Lists.{each}
 use Rattle.numbers.specs.Numbers.{none, starting, between, longest, clock_of}
 use Rattle.rules.specs.Operation.{Operation}
@@ -20,14 +20,14 @@ use Rattle.rules.specs.Output.{Output, no_newest, no_copy, no_link, newest_of, l
 use Rattle.rules.specs.Said.{accepted}
 use Rattle.rules.specs.State.{State, Outcome, outcome, refuse}
 use Rattle.guarantee.specs.Story.{Call, to_open, to_advance, to_write, to_read, to_deliver, outcome_of}
-use Rattle.guarantee.proofs.Bridge.{params_of, Framed}
+use Rattle.guarantee.proofs.CallEffects.{params_of, Framed}
 use Rattle.guarantee.proofs.CallSteps.{Refuses}
-use Rattle.guarantee.proofs.Channel.{view_of, InputShape, OutputShape}
-use Rattle.guarantee.proofs.Fits.{within_range}
+use Rattle.guarantee.proofs.ChannelOf.{channel_of, InputShape, OutputShape}
+use Rattle.guarantee.proofs.RangeFacts.{within_range}
 use Rattle.guarantee.proofs.Kept.{slow, Small, Kept}
-use Rattle.guarantee.proofs.View.{Inv}
+use Rattle.guarantee.proofs.Channel.{Inv}
 use Rattle.guarantee.proofs.Words.{each_at, each_long}
-use Rattle.guarantee.proofs.World.{Params, World, world_of, op_of, world_path}
+use Rattle.guarantee.proofs.PlainState.{Params, PlainState, plain_of, op_of, plain_path}
 
 -- a list of the same everywhere
 pub same_all : {A : Type 0} (X : A → Type 0) (n : ℕ) (x d : A) → X x → X d → (i : ℕ) → X (get_or (replicate n x) i d)
@@ -36,7 +36,7 @@ same_all X (suc n) x d h k zero = h
 same_all X (suc n) x d h k (suc i) = same_all X n x d h k i
 
 abbrev fresh_held : Held
-fresh_held = record { version = starting; value = 0; given = none }
+fresh_held = record { version = starting; value = 0; last_read = none }
 
 module _ (t : Time) where
   abbrev I : Input
@@ -46,7 +46,7 @@ module _ (t : Time) where
   first_held X h k = same_all X 16 fresh_held no_held h k
 
   abbrev fresh_ledger : Ledger
-  fresh_ledger = record { acked = replicate 16 none; epoch = record { 0 = 1 }; until = record { 0 = 0 } }
+  fresh_ledger = record { last_acknowledged = replicate 16 none; epoch = record { 0 = 1 }; lease_end = record { 0 = 0 } }
 
   first_ledger : (X : Ledger → Type 0) → X fresh_ledger → X no_ledger → (j : ℕ) → X (ledger I j)
   first_ledger X h k = same_all X 8 fresh_ledger no_ledger h k
@@ -58,15 +58,15 @@ module _ (t : Time) where
   first_in_shape = record {
     objects = length-replicate 16 fresh_held;
     ledgers = length-replicate 8 fresh_ledger;
-    acked = λ j l. ap (λ (x : Ledger). length x.acked) (ledger_at j l) ∙ length-replicate 16 none;
+    last_acknowledged = λ j l. ap (λ (x : Ledger). length x.last_acknowledged) (ledger_at j l) ∙ length-replicate 16 none;
     waiting = length-replicate {A = List Pair} 8 [];
   }
 
   pub first_given : (j o : ℕ) → last_read I j o ≡ 0
-  first_given j o = first_held (λ h. h.given.0 ≡ 0) refl refl o
+  first_given j o = first_held (λ h. h.last_read.0 ≡ 0) refl refl o
 
-  pub first_acked : (j o : ℕ) → last_ack I j o ≡ 0
-  first_acked j o = first_ledger (λ l. (get_or l.acked o none).0 ≡ 0) (same_all (λ v. v.0 ≡ 0) 16 none none refl refl o) refl j
+  pub first_acked : (j o : ℕ) → last_acknowledged I j o ≡ 0
+  first_acked j o = first_ledger (λ l. (get_or l.last_acknowledged o none).0 ≡ 0) (same_all (λ v. v.0 ≡ 0) 16 none none refl refl o) refl j
 
   pub first_epoch : (j : ℕ) → j < 8 → (ledger I j).epoch.0 ≡ 1
   first_epoch j l = ap (λ (x : Ledger). x.epoch.0) (ledger_at j l)
@@ -82,7 +82,7 @@ module _ (t : Time) where
   O = first_output t
 
   abbrev fresh_link : Link
-  fresh_link = record { copies = replicate 16 no_copy; epoch = record { 0 = 0 }; until = record { 0 = 0 } }
+  fresh_link = record { copies = replicate 16 no_copy; epoch = record { 0 = 0 }; lease_end = record { 0 = 0 } }
 
   first_link : (X : Link → Type 0) → X fresh_link → X no_link → (i : ℕ) → X (link O i)
   first_link X h k = same_all X 8 fresh_link no_link h k
@@ -101,7 +101,7 @@ module _ (t : Time) where
   first_newest o = same_all (λ (n : Newest). n ≡ no_newest) 16 no_newest no_newest refl refl o
 
 -- the channel of two servers in their first state, before any message
-pub first_channel : (L R : ℕ) (t u : Time) (i j : ℕ) → j < 8 → Inv L R (view_of (first_input t) (first_output u) i j [])
+pub first_channel : (L R : ℕ) (t u : Time) (i j : ℕ) → j < 8 → Inv L R (channel_of (first_input t) (first_output u) i j [])
 first_channel L R t u i j l = record {
   given_held = λ o. let z = first_given t j o in omega arith;
   acked_known = λ o. let z = first_acked t j o in omega arith;
@@ -109,7 +109,7 @@ first_channel L R t u i j l = record {
   got_known = λ o. let z = first_copy u (λ c. c.got.0 ≡ 0) refl i o in omega arith;
   got_source = λ o. inl (first_copy u (λ c. c.got.0 ≡ 0) refl i o);
   copy_source = λ o. inl (first_copy u (λ c. c.epoch.0 ≡ 0) refl i o);
-  lease_source = inl (first_link u (λ k. k.until.0 ≡ 0) refl refl i);
+  lease_source = inl (first_link u (λ k. k.lease_end.0 ≡ 0) refl refl i);
   epoch_pos = let z = first_epoch t j l in omega arith;
   copy_ok = λ o v e h. absurd h;
   lease_ok = λ s l e ps h. absurd h;
@@ -118,7 +118,7 @@ first_channel L R t u i j l = record {
 }
 
 -- a world in its first state
-abbrev pub first_world : (ℕ → Time) → (ℕ → Time) → (ℕ → Operation) → World
+abbrev pub first_world : (ℕ → Time) → (ℕ → Time) → (ℕ → Operation) → PlainState
 first_world t u op = record { inp = λ i. first_input (t i); out = λ j. first_output (u j); op = op; begun = 0; sent = [] }
 
 pub first_kept : (P : Params) → Small P → (t u : ℕ → Time) (op : ℕ → Operation) → Kept P (first_world t u op)
@@ -139,7 +139,7 @@ pub record Opened (inputs outputs : System) (s : State) (x : Outcome) : Type 0 w
   pub is_open : x.after.frame.is_open ≡ true
   pub framed : Framed x.after
   pub small : Small (params_of inputs outputs x.after)
-  pub kept : Kept (params_of inputs outputs x.after) (world_of x.after)
+  pub kept : Kept (params_of inputs outputs x.after) (plain_of x.after)
   pub said : x.said ≡ accepted
   pub none_made : x.after.made ≡ 0
   pub none_begun : x.after.begun ≡ 0
@@ -188,8 +188,8 @@ module _ (inputs outputs : System) (in_lawful : Lawful inputs) (out_lawful : Law
           beyond : (i : ℕ) → 8 ≤ i → length (each 8 (λ i. first (clock i) ∷ [])) ≤ i
           beyond i l = let z = each_long 8 (λ i. first (clock i)) in omega arith
 
-      world : world_of t ≡ first_world in_time out_time (op_of s)
-      world = world_path (fun_ext (made_at first_input (start_clock clocks 0 inputs.count))) (fun_ext (made_at first_output (start_clock clocks inputs.count outputs.count))) refl refl refl
+      world : plain_of t ≡ first_world in_time out_time (op_of s)
+      world = plain_path (fun_ext (made_at first_input (start_clock clocks 0 inputs.count))) (fun_ext (made_at first_output (start_clock clocks inputs.count outputs.count))) refl refl refl
 
   abbrev OpenStep : Outcome → Type 0
   OpenStep x = Refuses s x ⊎ Opened inputs outputs s x

@@ -10,7 +10,7 @@ use Rattle.rules.specs.Operation.{Operation, Reading, named_by, hears_pair}
 use Rattle.rules.proofs.Reactions.{every_reaction}
 use Rattle.guarantee.proofs.Sets.{has_or, has_none}
 use Rattle.guarantee.proofs.Words.{at, at_cases, set_from}
-use Rattle.guarantee.proofs.World.{Params, reaction}
+use Rattle.guarantee.proofs.PlainState.{Params, reaction}
 use Rattle.guarantee.proofs.Kept.{Wrote, Reads}
 
 -- ---- nothing is taken back

@@ -21,9 +21,9 @@ use Rattle.rules.specs.Output.{Output, no_newest, no_copy, no_link, newest_of, l
 use Rattle.rules.specs.Output.{asked as wanted, asks, asks_all, answers_read, with_copy, hears, hears_all, accepts, takes_copy, takes_lease}
 use Rattle.rules.specs.Output.{after_answer, acknowledgement, after_invalidation, answers_invalidation}
 use Rattle.rules.specs.Renewals.{asks_object, asks_volume, parts_of}
-use Rattle.guarantee.proofs.View.{Has, View, Part, asked, copy, lease, answer, Grant, Moves, Fresh, Good}
+use Rattle.guarantee.proofs.Channel.{Has, Channel, Part, asked, copy, lease, answer, Grant, Moves, Fresh, Good}
 use Rattle.guarantee.proofs.Words.{set_from, Any, In, any_old, any_split, in_any, All, each_all, each_any, each_length}
-use Rattle.guarantee.proofs.Channel.{IsAsked, IsAnswer, Says, view_of, Quiet, OutputShape}
+use Rattle.guarantee.proofs.ChannelOf.{IsAsked, IsAnswer, Says, channel_of, Quiet, OutputShape}
 
 -- ---- the higher of two versions, epochs or times
 
@@ -93,7 +93,7 @@ unfolding hears_all
 hears_all_copies [] l = refl
 hears_all_copies (x ∷ r) l = hears_all_copies r (hears x l) ∙ length-set l.copies x.object (heard x l)
 
-hears_all_lease : (ps : List Pair) (l : Link) → ((hears_all ps l).epoch ≡ l.epoch) × ((hears_all ps l).until ≡ l.until)
+hears_all_lease : (ps : List Pair) (l : Link) → ((hears_all ps l).epoch ≡ l.epoch) × ((hears_all ps l).lease_end ≡ l.lease_end)
 unfolding hears_all
 hears_all_lease [] l = (refl, refl)
 hears_all_lease (x ∷ r) l = hears_all_lease r (hears x l)
@@ -147,9 +147,9 @@ takes_copies y l = cond_both (accepts y l) (with_copy y.renewal.object (taken y 
     (λ _. length-set l.copies y.renewal.object (taken y l)) (λ _. refl)
 
 takes_lease_lem : (y : Renewed) (l : Link)
-    → ((takes_copy y l).epoch ≡ l.epoch) × ((takes_copy y l).until ≡ l.until)
+    → ((takes_copy y l).epoch ≡ l.epoch) × ((takes_copy y l).lease_end ≡ l.lease_end)
 takes_lease_lem y l = cond_both (accepts y l) (with_copy y.renewal.object (taken y l) l) l
-    (λ (k : Link). (k.epoch ≡ l.epoch) × (k.until ≡ l.until)) (λ _. (refl, refl)) (λ _. (refl, refl))
+    (λ (k : Link). (k.epoch ≡ l.epoch) × (k.lease_end ≡ l.lease_end)) (λ _. (refl, refl)) (λ _. (refl, refl))
 
 takes_up : (y : Renewed) (l : Link) (p : ℕ) → (copy_of l p).known.0 ≤ (copy_of (takes_copy y l) p).known.0
 takes_up y l p = elim (takes_from y l p) [
@@ -165,7 +165,7 @@ module _ (drift : ℕ) (y : Renewed) (l : Link) where
   leasing = record {
     copies = l.copies;
     epoch = later l.epoch y.epoch;
-    until = cond (ltb 0 y.length) (longer l.until (lease_end y.renewal.stamp.0 y.length drift)) l.until;
+    lease_end = cond (ltb 0 y.length) (longer l.lease_end (lease_end y.renewal.stamp.0 y.length drift)) l.lease_end;
   }
 
   leases_copies : (takes_lease drift y l).copies ≡ l.copies
@@ -174,23 +174,23 @@ module _ (drift : ℕ) (y : Renewed) (l : Link) where
   leases_up : l.epoch.0 ≤ (takes_lease drift y l).epoch.0
   leases_up = cond_both (asks_volume y.renewal.parts) leasing l (λ (k : Link). l.epoch.0 ≤ k.epoch.0) (λ _. later_up l.epoch y.epoch) (λ _. omega arith)
 
-  leases_until : l.until.0 ≤ (takes_lease drift y l).until.0
-  leases_until = cond_both (asks_volume y.renewal.parts) leasing l (λ (k : Link). l.until.0 ≤ k.until.0)
-      (λ _. cond_both (ltb 0 y.length) (longer l.until (lease_end y.renewal.stamp.0 y.length drift)) l.until (λ (t : Time). l.until.0 ≤ t.0)
-      (λ _. longer_up l.until (lease_end y.renewal.stamp.0 y.length drift)) (λ _. omega arith))
+  leases_until : l.lease_end.0 ≤ (takes_lease drift y l).lease_end.0
+  leases_until = cond_both (asks_volume y.renewal.parts) leasing l (λ (k : Link). l.lease_end.0 ≤ k.lease_end.0)
+      (λ _. cond_both (ltb 0 y.length) (longer l.lease_end (lease_end y.renewal.stamp.0 y.length drift)) l.lease_end (λ (t : Time). l.lease_end.0 ≤ t.0)
+      (λ _. longer_up l.lease_end (lease_end y.renewal.stamp.0 y.length drift)) (λ _. omega arith))
       (λ _. omega arith)
 
   -- the lease ends where it did, or where the one taken ends
-  leases_from : ((takes_lease drift y l).until ≡ l.until)
-      ⊎ ((asks_volume y.renewal.parts ≡ true) × (1 ≤ y.length) × ((takes_lease drift y l).until ≡ lease_end y.renewal.stamp.0 y.length drift)
+  leases_from : ((takes_lease drift y l).lease_end ≡ l.lease_end)
+      ⊎ ((asks_volume y.renewal.parts ≡ true) × (1 ≤ y.length) × ((takes_lease drift y l).lease_end ≡ lease_end y.renewal.stamp.0 y.length drift)
       × (y.epoch.0 ≤ (takes_lease drift y l).epoch.0))
   leases_from = cond_both (asks_volume y.renewal.parts) leasing l
-      (λ (k : Link). (k.until ≡ l.until)
-      ⊎ ((asks_volume y.renewal.parts ≡ true) × (1 ≤ y.length) × (k.until ≡ lease_end y.renewal.stamp.0 y.length drift) × (y.epoch.0 ≤ k.epoch.0)))
-      (λ t. cond_both (ltb 0 y.length) (longer l.until (lease_end y.renewal.stamp.0 y.length drift)) l.until
-      (λ (u : Time). (u ≡ l.until)
+      (λ (k : Link). (k.lease_end ≡ l.lease_end)
+      ⊎ ((asks_volume y.renewal.parts ≡ true) × (1 ≤ y.length) × (k.lease_end ≡ lease_end y.renewal.stamp.0 y.length drift) × (y.epoch.0 ≤ k.epoch.0)))
+      (λ t. cond_both (ltb 0 y.length) (longer l.lease_end (lease_end y.renewal.stamp.0 y.length drift)) l.lease_end
+      (λ (u : Time). (u ≡ l.lease_end)
       ⊎ ((asks_volume y.renewal.parts ≡ true) × (1 ≤ y.length) × (u ≡ lease_end y.renewal.stamp.0 y.length drift) × (y.epoch.0 ≤ (later l.epoch y.epoch).0)))
-      (λ s. elim (longer_from l.until (lease_end y.renewal.stamp.0 y.length drift)) [
+      (λ s. elim (longer_from l.lease_end (lease_end y.renewal.stamp.0 y.length drift)) [
         | inl h ↦ inl h
         | inr h ↦ inr (t, omega (arith, ltb-true 0 y.length s), h, later_to l.epoch y.epoch)
       ])
@@ -255,15 +255,15 @@ module _ (drift : ℕ) (y : Renewed) (l : Link) where
       let b = ap (λ (x : Epoch). x.0) (takes_lease_lem y (hears_all (list_of y.list) l)).0 in
       omega (arith, leases_up drift y (takes_copy y (hears_all (list_of y.list) l)))
 
-  pub answered_until_up : l.until.0 ≤ (answered drift y l).until.0
+  pub answered_until_up : l.lease_end.0 ≤ (answered drift y l).lease_end.0
   answered_until_up =
       let a = ap (λ (x : Time). x.0) (hears_all_lease (list_of y.list) l).1 in
       let b = ap (λ (x : Time). x.0) (takes_lease_lem y (hears_all (list_of y.list) l)).1 in
       omega (arith, leases_until drift y (takes_copy y (hears_all (list_of y.list) l)))
 
   -- the lease ends where it did, or where the one that the answer gave ends
-  pub answered_until : ((answered drift y l).until ≡ l.until)
-      ⊎ ((asks_volume y.renewal.parts ≡ true) × (1 ≤ y.length) × ((answered drift y l).until ≡ lease_end y.renewal.stamp.0 y.length drift)
+  pub answered_until : ((answered drift y l).lease_end ≡ l.lease_end)
+      ⊎ ((asks_volume y.renewal.parts ≡ true) × (1 ≤ y.length) × ((answered drift y l).lease_end ≡ lease_end y.renewal.stamp.0 y.length drift)
       × (y.epoch.0 ≤ (answered drift y l).epoch.0))
   answered_until = elim (leases_from drift y (takes_copy y (hears_all (list_of y.list) l))) [
     | inl h ↦ inl (h ∙ (takes_lease_lem y (hears_all (list_of y.list) l)).1 ∙ (hears_all_lease (list_of y.list) l).1)
@@ -295,14 +295,14 @@ ack_length j i l = cond_both (eqb l.count 0) [] (InvalidationAnswer j i l ∷ []
 -- ---- what is to show of a step at the output server
 
 -- how a link may change, for the channel that it belongs to
-pub record Tells (R : ℕ) (V : View) (l k : Link) : Type 0 where
+pub record Tells (R : ℕ) (V : Channel) (l k : Link) : Type 0 where
   pub known_up : (o : ℕ) → (copy_of l o).known.0 ≤ (copy_of k o).known.0
   pub epoch_up : l.epoch.0 ≤ k.epoch.0
   pub got_from : (o : ℕ) → ((copy_of k o).got.0 ≡ (copy_of l o).got.0)
       ⊎ ((e : ℕ) × V.Sent (copy o (copy_of k o).got.0 e) × ((copy_of k o).got.0 ≤ (copy_of k o).known.0))
   pub copy_from : (o : ℕ) → ((copy_of k o).epoch.0 ≡ (copy_of l o).epoch.0)
       ⊎ ((v : ℕ) × V.Sent (copy o v (copy_of k o).epoch.0) × (v ≤ (copy_of k o).known.0))
-  pub until_from : (k.until.0 ≡ l.until.0) ⊎ Grant R V k.until.0 k.epoch.0 (λ o. (copy_of k o).known.0)
+  pub until_from : (k.lease_end.0 ≡ l.lease_end.0) ⊎ Grant R V k.lease_end.0 k.epoch.0 (λ o. (copy_of k o).known.0)
 
 module _ (L R : ℕ) where
   pub out_moves : (I : Input) (O Q : Output) (i j : ℕ) (log new : List Message)
@@ -314,10 +314,10 @@ module _ (L R : ℕ) where
       × ((copy_of (link Q i) o).got.0 ≤ (copy_of (link Q i) o).known.0)))
       → ((o : ℕ) → ((copy_of (link Q i) o).epoch.0 ≡ (copy_of (link O i) o).epoch.0)
       ⊎ ((v : ℕ) × Any (Says i j (copy o v (copy_of (link Q i) o).epoch.0)) log × (v ≤ (copy_of (link Q i) o).known.0)))
-      → ((link Q i).until.0 ≡ (link O i).until.0)
-      ⊎ Grant R (view_of I O i j log) (link Q i).until.0 (link Q i).epoch.0 (λ o. (copy_of (link Q i) o).known.0)
-      → ((p : Part) → Any (Says i j p) new → Fresh L (view_of I O i j log) (view_of I Q i j (log ++ new)) p)
-      → Moves L R (view_of I O i j log) (view_of I Q i j (log ++ new))
+      → ((link Q i).lease_end.0 ≡ (link O i).lease_end.0)
+      ⊎ Grant R (channel_of I O i j log) (link Q i).lease_end.0 (link Q i).epoch.0 (λ o. (copy_of (link Q i) o).known.0)
+      → ((p : Part) → Any (Says i j p) new → Fresh L (channel_of I O i j log) (channel_of I Q i j (log ++ new)) p)
+      → Moves L R (channel_of I O i j log) (channel_of I Q i j (log ++ new))
   out_moves I O Q i j log new kn le cl go co un fr =
       let t : Q.clock.0 ≡ O.clock.0 = ap (λ (x : Time). x.0) cl in
       record {
@@ -340,17 +340,17 @@ module _ (L R : ℕ) where
 
   -- the same of a link that became k, where all that is newly said are answers of what is known
   pub link_moves : (I : Input) (O Q : Output) (i j : ℕ) (log new : List Message) (k : Link) (ps : List Pair)
-      → link Q i ≡ k → Q.clock ≡ O.clock → Tells R (view_of I O i j log) (link O i) k
+      → link Q i ≡ k → Q.clock ≡ O.clock → Tells R (channel_of I O i j log) (link O i) k
       → ((p : Part) → Any (Says i j p) new → IsAnswer ps p)
       → ((o v : ℕ) → Has o v ps → v ≤ (copy_of k o).known.0)
-      → Moves L R (view_of I O i j log) (view_of I Q i j (log ++ new))
+      → Moves L R (channel_of I O i j log) (channel_of I Q i j (log ++ new))
   link_moves I O Q i j log new k ps e cl t says told = out_moves I O Q i j log new
       s.known_up s.epoch_up cl s.got_from s.copy_from s.until_from (λ p h. fresh p (says p h))
     where
-      s : Tells R (view_of I O i j log) (link O i) (link Q i)
-      s = subst (λ (x : Link). Tells R (view_of I O i j log) (link O i) x) (sym e) t
+      s : Tells R (channel_of I O i j log) (link O i) (link Q i)
+      s = subst (λ (x : Link). Tells R (channel_of I O i j log) (link O i) x) (sym e) t
 
-      fresh : (p : Part) → IsAnswer ps p → Fresh L (view_of I O i j log) (view_of I Q i j (log ++ new)) p
+      fresh : (p : Part) → IsAnswer ps p → Fresh L (channel_of I O i j log) (channel_of I Q i j (log ++ new)) p
       fresh (asked t) h = absurd h
       fresh (copy o v d) h = absurd h
       fresh (lease t m d qs) h = absurd h
@@ -358,7 +358,7 @@ module _ (L R : ℕ) where
 
   -- a step at the output server that leaves the link as it was, and says nothing
   pub out_still : (I : Input) (O Q : Output) (i j : ℕ) (log new : List Message) → link Q i ≡ link O i → Q.clock ≡ O.clock → Quiet i j new
-      → Moves L R (view_of I O i j log) (view_of I Q i j (log ++ new))
+      → Moves L R (channel_of I O i j log) (channel_of I Q i j (log ++ new))
   out_still I O Q i j log new e cl q = link_moves I O Q i j log new (link O i) [] e cl
       (record {
         known_up = λ o. omega arith;
@@ -371,12 +371,12 @@ module _ (L R : ℕ) where
 
 -- ---- a good input server, and what the newest version covers
 
-pub good_good : (I : Input) (O : Output) (i j : ℕ) (log : List Message) (o : ℕ) → good O o i ≡ true → Good (view_of I O i j log) o
+pub good_good : (I : Input) (O : Output) (i j : ℕ) (log : List Message) (o : ℕ) → good O o i ≡ true → Good (channel_of I O i j log) o
 good_good I O i j log o h = record {
   copied = some c.got.0 (not-true (eqb c.got.0 0) b.0);
   sound = leb-true c.known.0 c.got.0 d.0;
   fresh = leb-true (link O i).epoch.0 c.epoch.0 d.1;
-  live = ltb-true O.clock.0 (link O i).until.0 a.1;
+  live = ltb-true O.clock.0 (link O i).lease_end.0 a.1;
 }
   where
     c : Copied
@@ -417,41 +417,41 @@ changed P ls a i k same new = elim (set_from ls a i k no_link) [
 -- ---- a renewal answer from input server a
 
 module _ (drift a : ℕ) (y : Renewed) (O : Output) where
-  pub clock8 : (after_answer drift a y O).clock ≡ O.clock
+  pub clock_renewed : (after_answer drift a y O).clock ≡ O.clock
   unfolding after_answer
-  clock8 = refl
+  clock_renewed = refl
 
   -- the link of another input server is as it was
-  pub link_other8 : (i : ℕ) → (a ≡ i → ⊥) → link (after_answer drift a y O) i ≡ link O i
+  pub link_other_renewed : (i : ℕ) → (a ≡ i → ⊥) → link (after_answer drift a y O) i ≡ link O i
   unfolding after_answer
-  link_other8 i n = get_or-set_other O.links a i (answered drift y (link O a)) no_link (λ h. n (sym h))
+  link_other_renewed i n = get_or-set_other O.links a i (answered drift y (link O a)) no_link (λ h. n (sym h))
 
-  pub link_own8 : a < length O.links
+  pub link_own_renewed : a < length O.links
       → link (after_answer drift a y O) a ≡ answered drift y (link O a)
   unfolding after_answer
-  link_own8 h = get_or-set_same O.links a (answered drift y (link O a)) no_link h
+  link_own_renewed h = get_or-set_same O.links a (answered drift y (link O a)) no_link h
 
   -- what is known, and a lease's epoch and end, never fall
-  pub known_up8 : (i p : ℕ) → (copy_of (link O i) p).known.0 ≤ (copy_of (link (after_answer drift a y O) i) p).known.0
+  pub known_up_renewed : (i p : ℕ) → (copy_of (link O i) p).known.0 ≤ (copy_of (link (after_answer drift a y O) i) p).known.0
   unfolding after_answer
-  known_up8 i p = changed (λ l m. (copy_of l p).known.0 ≤ (copy_of m p).known.0) O.links a i (answered drift y (link O a))
+  known_up_renewed i p = changed (λ l m. (copy_of l p).known.0 ≤ (copy_of m p).known.0) O.links a i (answered drift y (link O a))
       (λ l. omega arith) (answered_up drift y (link O a) p)
 
-  pub lease_epoch_up8 : (i : ℕ) → (link O i).epoch.0 ≤ (link (after_answer drift a y O) i).epoch.0
+  pub lease_epoch_up_renewed : (i : ℕ) → (link O i).epoch.0 ≤ (link (after_answer drift a y O) i).epoch.0
   unfolding after_answer
-  lease_epoch_up8 i = changed (λ l m. l.epoch.0 ≤ m.epoch.0) O.links a i (answered drift y (link O a))
+  lease_epoch_up_renewed i = changed (λ l m. l.epoch.0 ≤ m.epoch.0) O.links a i (answered drift y (link O a))
       (λ l. omega arith) (answered_epoch_up drift y (link O a))
 
-  pub lease_end_up8 : (i : ℕ) → (link O i).until.0 ≤ (link (after_answer drift a y O) i).until.0
+  pub lease_end_up_renewed : (i : ℕ) → (link O i).lease_end.0 ≤ (link (after_answer drift a y O) i).lease_end.0
   unfolding after_answer
-  lease_end_up8 i = changed (λ l m. l.until.0 ≤ m.until.0) O.links a i (answered drift y (link O a))
+  lease_end_up_renewed i = changed (λ l m. l.lease_end.0 ≤ m.lease_end.0) O.links a i (answered drift y (link O a))
       (λ l. omega arith) (answered_until_up drift y (link O a))
 
   -- a lease ends where it did, or where the one that the answer gave ends
-  pub until_bound8 : (i : ℕ) → (link (after_answer drift a y O) i).until.0
-      ≤ max (link O i).until.0 (lease_end y.renewal.stamp.0 y.length drift).0
+  pub lease_end_bound_renewed : (i : ℕ) → (link (after_answer drift a y O) i).lease_end.0
+      ≤ max (link O i).lease_end.0 (lease_end y.renewal.stamp.0 y.length drift).0
   unfolding after_answer
-  until_bound8 i = changed (λ l m. m.until.0 ≤ max l.until.0 (lease_end y.renewal.stamp.0 y.length drift).0) O.links a i
+  lease_end_bound_renewed i = changed (λ l m. m.lease_end.0 ≤ max l.lease_end.0 (lease_end y.renewal.stamp.0 y.length drift).0) O.links a i
       (answered drift y (link O a)) (λ l. omega arith)
       (elim (answered_until drift y (link O a)) [
         | inl h ↦ let k = ap (λ (t : Time). t.0) h in omega arith
@@ -459,11 +459,11 @@ module _ (drift a : ℕ) (y : Renewed) (O : Output) where
       ])
 
   -- the newest of an object is as it was, or is what the answer gave
-  pub newest8 : (p : ℕ) → (newest_of (after_answer drift a y O) p ≡ newest_of O p)
+  pub newest_renewed : (p : ℕ) → (newest_of (after_answer drift a y O) p ≡ newest_of O p)
       ⊎ ((p ≡ y.renewal.object) × (asks_object y.renewal.parts ≡ true) × ((newest_of (after_answer drift a y O) p).version ≡ y.version)
       × ((newest_of (after_answer drift a y O) p).value ≡ y.value))
   unfolding after_answer
-  newest8 p = cond_both (accepts y (hears_all (list_of y.list) (link O a)) && ltb (newest_of O y.renewal.object).version.0 y.version.0)
+  newest_renewed p = cond_both (accepts y (hears_all (list_of y.list) (link O a)) && ltb (newest_of O y.renewal.object).version.0 y.version.0)
       (set O.newest y.renewal.object (record { version = y.version; value = y.value })) O.newest
       (λ (ns : List Newest). (get_or ns p no_newest ≡ newest_of O p)
       ⊎ ((p ≡ y.renewal.object) × (asks_object y.renewal.parts ≡ true) × ((get_or ns p no_newest).version ≡ y.version) × ((get_or ns p no_newest).value ≡ y.value)))
@@ -480,9 +480,9 @@ module _ (drift a : ℕ) (y : Renewed) (O : Output) where
       (λ _. inl refl)
 
   -- the newest version never falls
-  pub newest_up8 : (p : ℕ) → (newest_of O p).version.0 ≤ (newest_of (after_answer drift a y O) p).version.0
+  pub newest_up_renewed : (p : ℕ) → (newest_of O p).version.0 ≤ (newest_of (after_answer drift a y O) p).version.0
   unfolding after_answer
-  newest_up8 p = cond_both (accepts y (hears_all (list_of y.list) (link O a)) && ltb (newest_of O y.renewal.object).version.0 y.version.0)
+  newest_up_renewed p = cond_both (accepts y (hears_all (list_of y.list) (link O a)) && ltb (newest_of O y.renewal.object).version.0 y.version.0)
       (set O.newest y.renewal.object (record { version = y.version; value = y.value })) O.newest
       (λ (ns : List Newest). (newest_of O p).version.0 ≤ (get_or ns p no_newest).version.0)
       (λ t. elim (set_from O.newest y.renewal.object p (record { version = y.version; value = y.value }) no_newest) [
@@ -496,9 +496,9 @@ module _ (drift a : ℕ) (y : Renewed) (O : Output) where
       (λ _. omega arith)
 
   -- the lists keep their lengths
-  pub shape8 : OutputShape O → OutputShape (after_answer drift a y O)
+  pub shape_renewed : OutputShape O → OutputShape (after_answer drift a y O)
   unfolding after_answer
-  shape8 s = record {
+  shape_renewed s = record {
     newest = cond_both (accepts y (hears_all (list_of y.list) (link O a)) && ltb (newest_of O y.renewal.object).version.0 y.version.0)
         (set O.newest y.renewal.object (record { version = y.version; value = y.value })) O.newest (λ (ns : List Newest). length ns ≡ 16)
         (λ _. length-set O.newest y.renewal.object (record { version = y.version; value = y.value }) ∙ s.newest) (λ _. s.newest);
@@ -508,27 +508,27 @@ module _ (drift a : ℕ) (y : Renewed) (O : Output) where
   }
 
   -- the channel of another input server
-  pub moves8_other : (L R : ℕ) (I : Input) (i j : ℕ) (log : List Message) (l : Pairs) → (a ≡ i → ⊥)
-      → Moves L R (view_of I O i j log) (view_of I (after_answer drift a y O) i j (log ++ acknowledgement j a l))
-  moves8_other L R I i j log l n = out_still L R I O (after_answer drift a y O) i j log (acknowledgement j a l)
-      (link_other8 i n) clock8 (quiet_ack_to i j a j l n)
+  pub moves_other_renewed : (L R : ℕ) (I : Input) (i j : ℕ) (log : List Message) (l : Pairs) → (a ≡ i → ⊥)
+      → Moves L R (channel_of I O i j log) (channel_of I (after_answer drift a y O) i j (log ++ acknowledgement j a l))
+  moves_other_renewed L R I i j log l n = out_still L R I O (after_answer drift a y O) i j log (acknowledgement j a l)
+      (link_other_renewed i n) clock_renewed (quiet_ack_to i j a j l n)
 
 -- the channel of the input server that answers
-pub moves8_own : (L drift : ℕ) (y : Renewed)
+pub moves_own_renewed : (L drift : ℕ) (y : Renewed)
     (I : Input) (O : Output) (i j : ℕ) (log : List Message)
     → OutputShape O → i < 8 → All (λ (p : Pair). p.object < 16) (list_of y.list) → In (RenewalAnswer i j y) log
-    → Moves L (1000 - drift) (view_of I O i j log)
-    (view_of I (after_answer drift i y O) i j (log ++ acknowledgement j i y.list))
-moves8_own L drift y I O i j log s b inside sent =
+    → Moves L (1000 - drift) (channel_of I O i j log)
+    (channel_of I (after_answer drift i y O) i j (log ++ acknowledgement j i y.list))
+moves_own_renewed L drift y I O i j log s b inside sent =
     link_moves L (1000 - drift) I O (after_answer drift i y O) i j log (acknowledgement j i y.list) k (list_of y.list)
-    (link_own8 drift i y O (omega arith))
-    (clock8 drift i y O)
+    (link_own_renewed drift i y O (omega arith))
+    (clock_renewed drift i y O)
     (record {
       known_up = answered_up drift y (link O i);
       epoch_up = answered_epoch_up drift y (link O i);
       got_from = got;
       copy_from = copied;
-      until_from = until;
+      until_from = ends;
     })
     (λ p h. (ack_says i j i j y.list p h).2)
     told
@@ -566,9 +566,9 @@ moves8_own L drift y I O i j log s b inside sent =
           )
     ]
 
-    until : (k.until.0 ≡ (link O i).until.0)
-        ⊎ Grant (1000 - drift) (view_of I O i j log) k.until.0 k.epoch.0 (λ q. (copy_of k q).known.0)
-    until = elim (answered_until drift y (link O i)) [
+    ends : (k.lease_end.0 ≡ (link O i).lease_end.0)
+        ⊎ Grant (1000 - drift) (channel_of I O i j log) k.lease_end.0 k.epoch.0 (λ q. (copy_of k q).known.0)
+    ends = elim (answered_until drift y (link O i)) [
       | inl h ↦ inl (ap (λ (t : Time). t.0) h)
       | inr h ↦ inr (record {
         s = y.renewal.stamp.0;
@@ -585,88 +585,88 @@ moves8_own L drift y I O i j log s b inside sent =
 
 -- ---- an invalidation from input server a
 
-abbrev told9 : ℕ → Version → Pair
-told9 o v = record { object = o; version = v }
+abbrev told_invalidation : ℕ → Version → Pair
+told_invalidation o v = record { object = o; version = v }
 
 module _ (a o : ℕ) (v : Version) (O : Output) where
-  pub clock9 : (after_invalidation a o v O).clock ≡ O.clock
+  pub clock_invalidation : (after_invalidation a o v O).clock ≡ O.clock
   unfolding after_invalidation
-  clock9 = refl
+  clock_invalidation = refl
 
-  pub newest9 : (p : ℕ) → newest_of (after_invalidation a o v O) p ≡ newest_of O p
+  pub newest_invalidation : (p : ℕ) → newest_of (after_invalidation a o v O) p ≡ newest_of O p
   unfolding after_invalidation
-  newest9 p = refl
+  newest_invalidation p = refl
 
-  pub link_other9 : (i : ℕ) → (a ≡ i → ⊥) → link (after_invalidation a o v O) i ≡ link O i
+  pub link_other_invalidation : (i : ℕ) → (a ≡ i → ⊥) → link (after_invalidation a o v O) i ≡ link O i
   unfolding after_invalidation
-  link_other9 i n = get_or-set_other O.links a i (hears (told9 o v) (link O a)) no_link (λ h. n (sym h))
+  link_other_invalidation i n = get_or-set_other O.links a i (hears (told_invalidation o v) (link O a)) no_link (λ h. n (sym h))
 
-  pub link_own9 : a < length O.links → link (after_invalidation a o v O) a ≡ hears (record { object = o; version = v }) (link O a)
+  pub link_own_invalidation : a < length O.links → link (after_invalidation a o v O) a ≡ hears (record { object = o; version = v }) (link O a)
   unfolding after_invalidation
-  link_own9 h = get_or-set_same O.links a (hears (told9 o v) (link O a)) no_link h
+  link_own_invalidation h = get_or-set_same O.links a (hears (told_invalidation o v) (link O a)) no_link h
 
   -- what is known never falls, and every lease is as it was
-  pub known_up9 : (i p : ℕ) → (copy_of (link O i) p).known.0 ≤ (copy_of (link (after_invalidation a o v O) i) p).known.0
+  pub known_up_invalidation : (i p : ℕ) → (copy_of (link O i) p).known.0 ≤ (copy_of (link (after_invalidation a o v O) i) p).known.0
   unfolding after_invalidation
-  known_up9 i p = changed (λ l m. (copy_of l p).known.0 ≤ (copy_of m p).known.0) O.links a i (hears (told9 o v) (link O a))
-      (λ l. omega arith) (hears_up (told9 o v) (link O a) p)
+  known_up_invalidation i p = changed (λ l m. (copy_of l p).known.0 ≤ (copy_of m p).known.0) O.links a i (hears (told_invalidation o v) (link O a))
+      (λ l. omega arith) (hears_up (told_invalidation o v) (link O a) p)
 
-  pub lease_epoch9 : (i : ℕ) → (link (after_invalidation a o v O) i).epoch ≡ (link O i).epoch
+  pub lease_epoch_invalidation : (i : ℕ) → (link (after_invalidation a o v O) i).epoch ≡ (link O i).epoch
   unfolding after_invalidation
-  lease_epoch9 i = changed (λ l m. m.epoch ≡ l.epoch) O.links a i (hears (told9 o v) (link O a)) (λ l. refl) refl
+  lease_epoch_invalidation i = changed (λ l m. m.epoch ≡ l.epoch) O.links a i (hears (told_invalidation o v) (link O a)) (λ l. refl) refl
 
-  pub lease_end9 : (i : ℕ) → (link (after_invalidation a o v O) i).until ≡ (link O i).until
+  pub lease_end_invalidation : (i : ℕ) → (link (after_invalidation a o v O) i).lease_end ≡ (link O i).lease_end
   unfolding after_invalidation
-  lease_end9 i = changed (λ l m. m.until ≡ l.until) O.links a i (hears (told9 o v) (link O a)) (λ l. refl) refl
+  lease_end_invalidation i = changed (λ l m. m.lease_end ≡ l.lease_end) O.links a i (hears (told_invalidation o v) (link O a)) (λ l. refl) refl
 
-  pub lease_epoch_up9 : (i : ℕ) → (link O i).epoch.0 ≤ (link (after_invalidation a o v O) i).epoch.0
-  lease_epoch_up9 i = let h = ap (λ (x : Epoch). x.0) (lease_epoch9 i) in omega arith
+  pub lease_epoch_up_invalidation : (i : ℕ) → (link O i).epoch.0 ≤ (link (after_invalidation a o v O) i).epoch.0
+  lease_epoch_up_invalidation i = let h = ap (λ (x : Epoch). x.0) (lease_epoch_invalidation i) in omega arith
 
-  pub lease_end_up9 : (i : ℕ) → (link O i).until.0 ≤ (link (after_invalidation a o v O) i).until.0
-  lease_end_up9 i = let h = ap (λ (x : Time). x.0) (lease_end9 i) in omega arith
+  pub lease_end_up_invalidation : (i : ℕ) → (link O i).lease_end.0 ≤ (link (after_invalidation a o v O) i).lease_end.0
+  lease_end_up_invalidation i = let h = ap (λ (x : Time). x.0) (lease_end_invalidation i) in omega arith
 
   -- the lists keep their lengths
-  pub shape9 : OutputShape O → OutputShape (after_invalidation a o v O)
+  pub shape_invalidation : OutputShape O → OutputShape (after_invalidation a o v O)
   unfolding after_invalidation
-  shape9 s = record {
+  shape_invalidation s = record {
     newest = s.newest;
-    links = length-set O.links a (hears (told9 o v) (link O a)) ∙ s.links;
-    copies = λ i b. changed (λ l m. length m.copies ≡ length l.copies) O.links a i (hears (told9 o v) (link O a))
-        (λ l. refl) (length-set (link O a).copies o (heard (told9 o v) (link O a))) ∙ s.copies i b;
+    links = length-set O.links a (hears (told_invalidation o v) (link O a)) ∙ s.links;
+    copies = λ i b. changed (λ l m. length m.copies ≡ length l.copies) O.links a i (hears (told_invalidation o v) (link O a))
+        (λ l. refl) (length-set (link O a).copies o (heard (told_invalidation o v) (link O a))) ∙ s.copies i b;
   }
 
   -- the channel of another input server
-  pub moves9_other : (L R : ℕ) (I : Input) (i j : ℕ) (log : List Message) → (a ≡ i → ⊥)
-      → Moves L R (view_of I O i j log) (view_of I (after_invalidation a o v O) i j (log ++ answers_invalidation j a o v))
-  moves9_other L R I i j log n = out_still L R I O (after_invalidation a o v O) i j log (answers_invalidation j a o v)
-      (link_other9 i n) clock9 (λ p h. elim h [ inl y ↦ n y.0 | inr y ↦ y ])
+  pub moves_other_invalidation : (L R : ℕ) (I : Input) (i j : ℕ) (log : List Message) → (a ≡ i → ⊥)
+      → Moves L R (channel_of I O i j log) (channel_of I (after_invalidation a o v O) i j (log ++ answers_invalidation j a o v))
+  moves_other_invalidation L R I i j log n = out_still L R I O (after_invalidation a o v O) i j log (answers_invalidation j a o v)
+      (link_other_invalidation i n) clock_invalidation (λ p h. elim h [ inl y ↦ n y.0 | inr y ↦ y ])
 
 -- the channel of the input server that invalidates
-pub moves9_own : (L R o : ℕ) (v : Version) (I : Input) (O : Output) (i j : ℕ) (log : List Message) → OutputShape O → i < 8 → o < 16
-    → Moves L R (view_of I O i j log) (view_of I (after_invalidation i o v O) i j (log ++ answers_invalidation j i o v))
-moves9_own L R o v I O i j log s b c =
-    link_moves L R I O (after_invalidation i o v O) i j log (answers_invalidation j i o v) (hears (told9 o v) (link O i)) (told9 o v ∷ [])
-    (link_own9 i o v O (omega arith))
-    (clock9 i o v O)
+pub moves_own_invalidation : (L R o : ℕ) (v : Version) (I : Input) (O : Output) (i j : ℕ) (log : List Message) → OutputShape O → i < 8 → o < 16
+    → Moves L R (channel_of I O i j log) (channel_of I (after_invalidation i o v O) i j (log ++ answers_invalidation j i o v))
+moves_own_invalidation L R o v I O i j log s b c =
+    link_moves L R I O (after_invalidation i o v O) i j log (answers_invalidation j i o v) (hears (told_invalidation o v) (link O i)) (told_invalidation o v ∷ [])
+    (link_own_invalidation i o v O (omega arith))
+    (clock_invalidation i o v O)
     (record {
-      known_up = hears_up (told9 o v) (link O i);
+      known_up = hears_up (told_invalidation o v) (link O i);
       epoch_up = omega arith;
-      got_from = λ p. inl (ap (λ (y : Version). y.0) (hears_got (told9 o v) (link O i) p));
-      copy_from = λ p. inl (ap (λ (y : Epoch). y.0) (hears_epoch (told9 o v) (link O i) p));
+      got_from = λ p. inl (ap (λ (y : Version). y.0) (hears_got (told_invalidation o v) (link O i) p));
+      copy_from = λ p. inl (ap (λ (y : Epoch). y.0) (hears_epoch (told_invalidation o v) (link O i) p));
       until_from = inl refl;
     })
     (λ p h. elim h [ inl y ↦ y.2 | inr y ↦ absurd y ])
     told
   where
-    told : (q u : ℕ) → Has q u (told9 o v ∷ []) → u ≤ (copy_of (hears (told9 o v) (link O i)) q).known.0
+    told : (q u : ℕ) → Has q u (told_invalidation o v ∷ []) → u ≤ (copy_of (hears (told_invalidation o v) (link O i)) q).known.0
     told q u (inr h) = absurd h
     told q u (inl h) =
         let y : o < length (link O i).copies = omega (arith, s.copies i b) in
-        let t : u ≤ (copy_of (hears (told9 o v) (link O i)) o).known.0 = omega (arith, hears_told (told9 o v) (link O i) y) in
-        subst (λ (k : ℕ). u ≤ (copy_of (hears (told9 o v) (link O i)) k).known.0) h.0 t
+        let t : u ≤ (copy_of (hears (told_invalidation o v) (link O i)) o).known.0 = omega (arith, hears_told (told_invalidation o v) (link O i) y) in
+        subst (λ (k : ℕ). u ≤ (copy_of (hears (told_invalidation o v) (link O i)) k).known.0) h.0 t
 
-pub quiet9 : (i j a b o : ℕ) (v : Version) → (b ≡ j → ⊥) → Quiet i j (answers_invalidation b a o v)
-quiet9 i j a b o v n p h = elim h [ inl y ↦ n y.1 | inr y ↦ y ]
+pub quiet_invalidation : (i j a b o : ℕ) (v : Version) → (b ≡ j → ⊥) → Quiet i j (answers_invalidation b a o v)
+quiet_invalidation i j a b o v n p h = elim h [ inl y ↦ n y.1 | inr y ↦ y ]
 
 -- ---- a read request at output server b
 
@@ -684,8 +684,8 @@ module _ (sys : System) (b p n o : ℕ) (O : Output) where
       one k = cond_both (good O o k) [] (renewal k ∷ []) (λ (new : List Message). Any (Says i j q) new → (b ≡ j) × IsAsked O.clock.0 q)
           (λ _ x. absurd x) (λ _ x. elim x [ inl y ↦ (y.1, y.3) | inr y ↦ absurd y ])
 
-  pub asked5 : (i j : ℕ) (q : Part) → Any (Says i j q) (answers_read sys b p n o O) → (b ≡ j) × IsAsked O.clock.0 q
-  asked5 i j q = cond_both (valid sys n o O) (ReadAnswer b p (newest_of O o).version (newest_of O o).value ∷ []) (asks_all b n o O)
+  pub asked_read : (i j : ℕ) (q : Part) → Any (Says i j q) (answers_read sys b p n o O) → (b ≡ j) × IsAsked O.clock.0 q
+  asked_read i j q = cond_both (valid sys n o O) (ReadAnswer b p (newest_of O o).version (newest_of O o).value ∷ []) (asks_all b n o O)
       (λ (new : List Message). Any (Says i j q) new → (b ≡ j) × IsAsked O.clock.0 q)
       (λ _ x. elim x [ inl y ↦ absurd y | inr y ↦ absurd y ]) (λ _. asked_renewals i j q)
 
@@ -704,13 +704,13 @@ module _ (sys : System) (b p n o : ℕ) (O : Output) where
       (λ _. each_length n (λ k. cond (good O o k) [] (renewal k ∷ []))
       (λ k. cond_both (good O o k) [] (renewal k ∷ []) (λ (new : List Message). length new ≤ 1) (λ _. omega arith) (λ _. omega arith)))
 
-pub moves5 : (L R : ℕ) (sys : System) (b p n o : ℕ) (I : Input) (O Q : Output) (i j : ℕ) (log : List Message) → (b ≡ j → Q ≡ O)
-    → Moves L R (view_of I O i j log) (view_of I O i j (log ++ answers_read sys b p n o Q))
-moves5 L R sys b p n o I O Q i j log e = out_moves L R I O O i j log (answers_read sys b p n o Q)
+pub moves_read : (L R : ℕ) (sys : System) (b p n o : ℕ) (I : Input) (O Q : Output) (i j : ℕ) (log : List Message) → (b ≡ j → Q ≡ O)
+    → Moves L R (channel_of I O i j log) (channel_of I O i j (log ++ answers_read sys b p n o Q))
+moves_read L R sys b p n o I O Q i j log e = out_moves L R I O O i j log (answers_read sys b p n o Q)
     (λ o. omega arith) (omega arith) refl (λ o. inl refl) (λ o. inl refl) (inl refl)
-    (λ q h. says q (asked5 sys b p n o Q i j q h))
+    (λ q h. says q (asked_read sys b p n o Q i j q h))
   where
-    says : (q : Part) → (b ≡ j) × IsAsked Q.clock.0 q → Fresh L (view_of I O i j log) (view_of I O i j (log ++ answers_read sys b p n o Q)) q
+    says : (q : Part) → (b ≡ j) × IsAsked Q.clock.0 q → Fresh L (channel_of I O i j log) (channel_of I O i j (log ++ answers_read sys b p n o Q)) q
     says (asked t) h = omega (arith, h.1, ap (λ (X : Output). X.clock.0) (e h.0))
     says (copy q u d) h = absurd h.1
     says (lease t m d qs) h = absurd h.1

@@ -18,7 +18,7 @@ use Rattle.rules.specs.Lists.{list_of}
 use Rattle.rules.specs.Renewals.{asks_volume}
 use Rattle.guarantee.specs.Bounds.{IsBetween, IsVersion, IsPair, ChainBounds, InputBounds, OutputBounds}
 use Rattle.guarantee.specs.Laws.{InputRises, OutputRises, LeavesOthers}
-use Rattle.guarantee.proofs.Channel.{InputShape, OutputShape}
+use Rattle.guarantee.proofs.ChannelOf.{InputShape, OutputShape}
 use Rattle.guarantee.proofs.InputMoves as Ins
 use Rattle.guarantee.proofs.InputMoves.{pair_of, swept, took}
 use Rattle.guarantee.proofs.OutputMoves as Outs
@@ -38,19 +38,19 @@ changed {A = A} P l a i k d same new = elim (set_from l a i k d) [
 -- ---- input servers: bounds
 
 pub shape_in : (lease made : ℕ) (I : Input) → InputBounds lease made I → InputShape I
-shape_in lease made I b = record { objects = b.objects; ledgers = b.ledgers; acked = b.acked; waiting = b.chains.places }
+shape_in lease made I b = record { objects = b.objects; ledgers = b.ledgers; last_acknowledged = b.last_acknowledged; waiting = b.chains.places }
 
 -- more messages leave more room
 pub more_made : (lease made more : ℕ) (I : Input) → made ≤ more → InputBounds lease made I → InputBounds lease more I
 more_made lease made more I h b = record {
   objects = b.objects;
   ledgers = b.ledgers;
-  acked = b.acked;
+  last_acknowledged = b.last_acknowledged;
   clock = b.clock;
   highest = b.highest;
   version = b.version;
   epoch = λ j l. let e = b.epoch j l in (e.0, omega (arith, e.1));
-  until = b.until;
+  lease_end = b.lease_end;
   chains = b.chains;
 }
 
@@ -80,7 +80,7 @@ took_lc o v x I y h = cond_both (ltb (held I o).version.0 v.0)
     (record {
       clock = I.clock;
       lc = max I.lc (clock_of v);
-      objects = set I.objects o (record { version = v; value = x; given = (held I o).given });
+      objects = set I.objects o (record { version = v; value = x; last_read = (held I o).last_read });
       ledgers = I.ledgers;
       waiting = I.waiting;
     })
@@ -93,7 +93,7 @@ lc_bound m o v x I y h = subst (λ (n : ℕ). IsBetween 1 65535 n) (sym (swept o
 -- each version held is as it was, or is the one written
 pub version_bound : (m o : ℕ) (v : Version) (x : ℕ) (I : Input) → IsVersion v → ((p : ℕ) → p < 16 → IsVersion (held I p).version)
     → (p : ℕ) → p < 16 → IsVersion (held (after_write m o v x I) p).version
-version_bound m o v x I y h p l = elim (Ins.held3 m o v x I p) [
+version_bound m o v x I y h p l = elim (Ins.held_write m o v x I p) [
   | inl e ↦ subst IsVersion (sym e.0) (h p l)
   | inr e ↦ subst IsVersion (sym e.1) y
 ]
@@ -101,18 +101,18 @@ version_bound m o v x I y h p l = elim (Ins.held3 m o v x I p) [
 pub write_bounds : (lease made count m o : ℕ) (v : Version) (x : ℕ) (I : Input) → InputBounds lease made I → o < 16 → IsVersion v → 1 ≤ count
     → InputBounds lease (made + count) (after_write m o v x I)
 write_bounds lease made count m o v x I b l y some =
-    let s = Ins.shape3 m o v x I (shape_in lease made I b) in
-    let c = ap (λ (t : Time). t.0) (Ins.clock3 m o v x I) in
+    let s = Ins.shape_write m o v x I (shape_in lease made I b) in
+    let c = ap (λ (t : Time). t.0) (Ins.clock_write m o v x I) in
     record {
       objects = s.objects;
       ledgers = s.ledgers;
-      acked = s.acked;
+      last_acknowledged = s.last_acknowledged;
       clock = let z = b.clock in omega arith;
       highest = lc_bound m o v x I y b.highest;
       version = version_bound m o v x I y b.version;
-      epoch = λ j few. let e = Ins.epoch3 m o v x I j in let d = b.epoch j few in
+      epoch = λ j few. let e = Ins.epoch_write m o v x I j in let d = b.epoch j few in
           (omega (arith, e.0, d.0), omega (arith, e.1, d.1));
-      until = λ j. let u = ap (λ (t : Time). t.0) (Ins.until3 m o v x I j) in omega (arith, b.until j);
+      lease_end = λ j. let u = ap (λ (t : Time). t.0) (Ins.lease_end_write m o v x I j) in omega (arith, b.lease_end j);
       chains = sweeps_chains o m (takes_write o v x I)
           (subst ChainBounds (sym (took o v x I).waiting) b.chains)
           (l, subst (λ (w : Version). IsVersion w) (same_version) (version_bound m o v x I y b.version o l));
@@ -123,17 +123,17 @@ write_bounds lease made count m o v x I b l y some =
 
 pub renewal_bounds : (lease made b : ℕ) (r : Renewal) (I : Input) → InputBounds lease made I → InputBounds lease made (after_renewal lease b r I)
 renewal_bounds lease made b r I h =
-    let s = Ins.shape7 lease b r I (shape_in lease made I h) in
+    let s = Ins.shape_renewal lease b r I (shape_in lease made I h) in
     record {
       objects = s.objects;
       ledgers = s.ledgers;
-      acked = s.acked;
+      last_acknowledged = s.last_acknowledged;
       clock = h.clock;
       highest = h.highest;
-      version = λ p l. subst IsVersion (sym (Ins.held7 lease b r I p).0) (h.version p l);
-      epoch = λ j l. subst (λ (e : Epoch). IsBetween 1 (made + 1) e.0) (sym (Ins.epoch7 lease b r I j)) (h.epoch j l);
-      until = λ j. elim (Ins.until7 lease b r I j) [
-        | inl e ↦ let u = ap (λ (t : Time). t.0) e in omega (arith, h.until j)
+      version = λ p l. subst IsVersion (sym (Ins.held_renewal lease b r I p).0) (h.version p l);
+      epoch = λ j l. subst (λ (e : Epoch). IsBetween 1 (made + 1) e.0) (sym (Ins.epoch_renewal lease b r I j)) (h.epoch j l);
+      lease_end = λ j. elim (Ins.lease_end_renewal lease b r I j) [
+        | inl e ↦ let u = ap (λ (t : Time). t.0) e in omega (arith, h.lease_end j)
         | inr e ↦ omega (arith, e)
       ];
       chains = h.chains;
@@ -143,22 +143,22 @@ pub acks_chains : (b : ℕ) (ps : List Pair) (I : Input) → ChainBounds I.waiti
 unfolding acknowledges_all
 acks_chains b [] I h = h
 acks_chains b (x ∷ xs) I h = acks_chains b xs (acknowledges b x I)
-    (freed_bounds I.waiting b x.object (raised (get_or (ledger I b).acked x.object none) x.version) h)
+    (freed_bounds I.waiting b x.object (raised (get_or (ledger I b).last_acknowledged x.object none) x.version) h)
 
 pub ack_bounds : (lease made b : ℕ) (ps : List Pair) (I : Input) → InputBounds lease made I → InputBounds lease made (acknowledges_all b ps I)
 ack_bounds lease made b ps I h =
-    let s = Ins.shape10 b ps I (shape_in lease made I h) in
-    let t = Ins.keeps10 b ps I in
+    let s = Ins.shape_acknowledgement b ps I (shape_in lease made I h) in
+    let t = Ins.keeps_acknowledgement b ps I in
     let c = ap (λ (t : Time). t.0) t.clock in
     record {
       objects = s.objects;
       ledgers = s.ledgers;
-      acked = s.acked;
+      last_acknowledged = s.last_acknowledged;
       clock = let z = h.clock in omega arith;
       highest = subst (λ (n : ℕ). IsBetween 1 65535 n) (sym t.lc) h.highest;
-      version = λ p l. subst (λ (y : Held). IsVersion y.version) (sym (Ins.held10 b ps I p)) (h.version p l);
+      version = λ p l. subst (λ (y : Held). IsVersion y.version) (sym (Ins.held_acknowledgement b ps I p)) (h.version p l);
       epoch = λ j l. subst (λ (e : Epoch). IsBetween 1 (made + 1) e.0) (sym (t.epoch j)) (h.epoch j l);
-      until = λ j. let u = ap (λ (t : Time). t.0) (t.until j) in omega (arith, h.until j);
+      lease_end = λ j. let u = ap (λ (t : Time). t.0) (t.lease_end j) in omega (arith, h.lease_end j);
       chains = acks_chains b ps I h.chains;
     }
 
@@ -166,58 +166,58 @@ pub later_bounds : (lease made x : ℕ) (I : Input) → InputBounds lease made I
 later_bounds lease made x I h l = record {
   objects = h.objects;
   ledgers = h.ledgers;
-  acked = h.acked;
+  last_acknowledged = h.last_acknowledged;
   clock = l;
   highest = h.highest;
   version = h.version;
   epoch = h.epoch;
-  until = λ j. omega (arith, h.until j);
+  lease_end = λ j. omega (arith, h.lease_end j);
   chains = h.chains;
 }
 
 -- ---- input servers: what never falls
 
 pub input_same : (I : Input) → InputRises I I
-input_same I = record { clock = omega arith; highest = omega arith; held = λ o. omega arith; acked = λ j o. omega arith; epoch = λ j. omega arith }
+input_same I = record { clock = omega arith; highest = omega arith; held = λ o. omega arith; last_acknowledged = λ j o. omega arith; epoch = λ j. omega arith }
 
 pub input_then : (I J K : Input) → InputRises I J → InputRises J K → InputRises I K
 input_then I J K a b = record {
   clock = omega (arith, a.clock, b.clock);
   highest = omega (arith, a.highest, b.highest);
   held = λ o. omega (arith, a.held o, b.held o);
-  acked = λ j o. omega (arith, a.acked j o, b.acked j o);
+  last_acknowledged = λ j o. omega (arith, a.last_acknowledged j o, b.last_acknowledged j o);
   epoch = λ j. omega (arith, a.epoch j, b.epoch j);
 }
 
 pub write_rises : (m o : ℕ) (v : Version) (x : ℕ) (I : Input) → InputRises I (after_write m o v x I)
 write_rises m o v x I = record {
-  clock = let c = ap (λ (t : Time). t.0) (Ins.clock3 m o v x I) in omega arith;
-  highest = (Ins.lc3 m o v x I).0;
-  held = Ins.up3 m o v x I;
-  acked = λ j p. omega (arith, Ins.acked3 m o v x I j p);
-  epoch = λ j. (Ins.epoch3 m o v x I j).0;
+  clock = let c = ap (λ (t : Time). t.0) (Ins.clock_write m o v x I) in omega arith;
+  highest = (Ins.lc_write m o v x I).0;
+  held = Ins.up_write m o v x I;
+  last_acknowledged = λ j p. omega (arith, Ins.acknowledged_write m o v x I j p);
+  epoch = λ j. (Ins.epoch_write m o v x I j).0;
 }
 
 pub renewal_rises : (lease b : ℕ) (r : Renewal) (I : Input) → InputRises I (after_renewal lease b r I)
 renewal_rises lease b r I = record {
   clock = omega arith;
   highest = omega arith;
-  held = λ p. let e = ap (λ (w : Version). w.0) (Ins.held7 lease b r I p).0 in omega arith;
-  acked = λ j p. omega (arith, Ins.acked7 lease b r I j p);
-  epoch = λ j. let e = ap (λ (d : Epoch). d.0) (Ins.epoch7 lease b r I j) in omega arith;
+  held = λ p. let e = ap (λ (w : Version). w.0) (Ins.held_renewal lease b r I p).0 in omega arith;
+  last_acknowledged = λ j p. omega (arith, Ins.acknowledged_renewal lease b r I j p);
+  epoch = λ j. let e = ap (λ (d : Epoch). d.0) (Ins.epoch_renewal lease b r I j) in omega arith;
 }
 
 pub ack_rises : (b : ℕ) (ps : List Pair) (I : Input) → InputRises I (acknowledges_all b ps I)
-ack_rises b ps I = let t = Ins.keeps10 b ps I in record {
+ack_rises b ps I = let t = Ins.keeps_acknowledgement b ps I in record {
   clock = let c = ap (λ (x : Time). x.0) t.clock in omega arith;
   highest = omega (arith, t.lc);
-  held = λ p. let e = ap (λ (h : Held). h.version.0) (Ins.held10 b ps I p) in omega arith;
-  acked = t.acked_up;
+  held = λ p. let e = ap (λ (h : Held). h.version.0) (Ins.held_acknowledgement b ps I p) in omega arith;
+  last_acknowledged = t.acked_up;
   epoch = λ j. let e = ap (λ (d : Epoch). d.0) (t.epoch j) in omega arith;
 }
 
 pub later_rises : (x : ℕ) (I : Input) → InputRises I (later_input x I)
-later_rises x I = record { clock = omega arith; highest = omega arith; held = λ o. omega arith; acked = λ j o. omega arith; epoch = λ j. omega arith }
+later_rises x I = record { clock = omega arith; highest = omega arith; held = λ o. omega arith; last_acknowledged = λ j o. omega arith; epoch = λ j. omega arith }
 
 -- ---- input servers: what concerns one output server alone
 
@@ -237,11 +237,11 @@ queues_leaves o b I = cond_both (owed I o b)
     leaves c e = record {
       objects = refl;
       chain = λ j n. get_or-set_other I.waiting b j c [] (λ d. n (sym d));
-      ledger = λ j n. get_or-set_other I.ledgers b j (record { acked = (ledger I b).acked; epoch = e; until = (ledger I b).until }) no_ledger (λ d. n (sym d));
+      ledger = λ j n. get_or-set_other I.ledgers b j (record { last_acknowledged = (ledger I b).last_acknowledged; epoch = e; lease_end = (ledger I b).lease_end }) no_ledger (λ d. n (sym d));
     }
 
 pub acks_leaves : (b : ℕ) (ps : List Pair) (I : Input) → LeavesOthers b I (acknowledges_all b ps I)
-acks_leaves b ps I = let t = Ins.keeps10 b ps I in record {
+acks_leaves b ps I = let t = Ins.keeps_acknowledgement b ps I in record {
   objects = t.objects;
   chain = λ j n. (t.other j n).1;
   ledger = λ j n. (t.other j n).0;
@@ -262,28 +262,28 @@ end_bound stamp len drift h k =
 pub answer_bounds : (drift a : ℕ) (y : Renewed) (O : Output)
     → OutputBounds O → y.renewal.stamp.0 ≤ last_time → y.length ≤ longest → OutputBounds (after_answer drift a y O)
 answer_bounds drift a y O b h k =
-    let s = Outs.shape8 drift a y O (shape_out O b) in
+    let s = Outs.shape_renewed drift a y O (shape_out O b) in
     record {
       newest = s.newest;
       links = s.links;
       copies = s.copies;
-      clock = subst (λ (t : Time). t.0 ≤ last_time) (sym (Outs.clock8 drift a y O)) b.clock;
-      until = λ i. omega (arith, Outs.until_bound8 drift a y O i, b.until i, end_bound y.renewal.stamp.0 y.length drift h k);
+      clock = subst (λ (t : Time). t.0 ≤ last_time) (sym (Outs.clock_renewed drift a y O)) b.clock;
+      lease_end = λ i. omega (arith, Outs.lease_end_bound_renewed drift a y O i, b.lease_end i, end_bound y.renewal.stamp.0 y.length drift h k);
     }
 
 pub told_bounds : (a o : ℕ) (v : Version) (O : Output) → OutputBounds O → OutputBounds (after_invalidation a o v O)
 told_bounds a o v O b =
-    let s = Outs.shape9 a o v O (shape_out O b) in
+    let s = Outs.shape_invalidation a o v O (shape_out O b) in
     record {
       newest = s.newest;
       links = s.links;
       copies = s.copies;
-      clock = subst (λ (t : Time). t.0 ≤ last_time) (sym (Outs.clock9 a o v O)) b.clock;
-      until = λ i. subst (λ (t : Time). t.0 ≤ last_time + longest) (sym (Outs.lease_end9 a o v O i)) (b.until i);
+      clock = subst (λ (t : Time). t.0 ≤ last_time) (sym (Outs.clock_invalidation a o v O)) b.clock;
+      lease_end = λ i. subst (λ (t : Time). t.0 ≤ last_time + longest) (sym (Outs.lease_end_invalidation a o v O i)) (b.lease_end i);
     }
 
 pub later_output_bounds : (x : ℕ) (O : Output) → OutputBounds O → O.clock.0 + x ≤ last_time → OutputBounds (later_output x O)
-later_output_bounds x O b h = record { newest = b.newest; links = b.links; copies = b.copies; clock = h; until = b.until }
+later_output_bounds x O b h = record { newest = b.newest; links = b.links; copies = b.copies; clock = h; lease_end = b.lease_end }
 
 -- ---- output servers: what never falls
 
@@ -347,38 +347,38 @@ output_then O Q R a b = record {
   end_of_lease = λ i. omega (arith, a.end_of_lease i, b.end_of_lease i);
 }
 
-copies8 : (drift a : ℕ) (y : Renewed) (O : Output) (i p : ℕ)
+copies_renewed : (drift a : ℕ) (y : Renewed) (O : Output) (i p : ℕ)
     → (copy_of (link O i) p).epoch.0 ≤ (copy_of (link (after_answer drift a y O) i) p).epoch.0
 unfolding after_answer
-copies8 drift a y O i =
+copies_renewed drift a y O i =
     changed EpochsRise O.links a i (takes_lease drift y (takes_copy y (hears_all (list_of y.list) (link O a)))) no_link
     (λ l p. omega arith) (answered_rises drift y (link O a))
 
 pub answer_rises : (drift a : ℕ) (y : Renewed) (O : Output)
     → OutputRises O (after_answer drift a y O)
 answer_rises drift a y O = record {
-  clock = let c = ap (λ (t : Time). t.0) (Outs.clock8 drift a y O) in omega arith;
-  newest = Outs.newest_up8 drift a y O;
-  known = Outs.known_up8 drift a y O;
-  copy_epoch = copies8 drift a y O;
-  lease_epoch = Outs.lease_epoch_up8 drift a y O;
-  end_of_lease = Outs.lease_end_up8 drift a y O;
+  clock = let c = ap (λ (t : Time). t.0) (Outs.clock_renewed drift a y O) in omega arith;
+  newest = Outs.newest_up_renewed drift a y O;
+  known = Outs.known_up_renewed drift a y O;
+  copy_epoch = copies_renewed drift a y O;
+  lease_epoch = Outs.lease_epoch_up_renewed drift a y O;
+  end_of_lease = Outs.lease_end_up_renewed drift a y O;
 }
 
-copies9 : (a o : ℕ) (v : Version) (O : Output) (i p : ℕ)
+copies_invalidation : (a o : ℕ) (v : Version) (O : Output) (i p : ℕ)
     → (copy_of (link O i) p).epoch.0 ≤ (copy_of (link (after_invalidation a o v O) i) p).epoch.0
 unfolding after_invalidation
-copies9 a o v O i = changed EpochsRise O.links a i (hears (record { object = o; version = v }) (link O a)) no_link
+copies_invalidation a o v O i = changed EpochsRise O.links a i (hears (record { object = o; version = v }) (link O a)) no_link
     (λ l p. omega arith) (hears_rises (record { object = o; version = v }) (link O a))
 
 pub told_rises : (a o : ℕ) (v : Version) (O : Output) → OutputRises O (after_invalidation a o v O)
 told_rises a o v O = record {
-  clock = let c = ap (λ (t : Time). t.0) (Outs.clock9 a o v O) in omega arith;
-  newest = λ p. let e = ap (λ (n : Newest). n.version.0) (Outs.newest9 a o v O p) in omega arith;
-  known = Outs.known_up9 a o v O;
-  copy_epoch = copies9 a o v O;
-  lease_epoch = Outs.lease_epoch_up9 a o v O;
-  end_of_lease = Outs.lease_end_up9 a o v O;
+  clock = let c = ap (λ (t : Time). t.0) (Outs.clock_invalidation a o v O) in omega arith;
+  newest = λ p. let e = ap (λ (n : Newest). n.version.0) (Outs.newest_invalidation a o v O p) in omega arith;
+  known = Outs.known_up_invalidation a o v O;
+  copy_epoch = copies_invalidation a o v O;
+  lease_epoch = Outs.lease_epoch_up_invalidation a o v O;
+  end_of_lease = Outs.lease_end_up_invalidation a o v O;
 }
 
 pub later_output_rises : (x : ℕ) (O : Output) → OutputRises O (later_output x O)

@@ -14,10 +14,10 @@ use Rattle.rules.specs.Said.{refused, accepted, began}
 use Rattle.rules.specs.State.{Frame, State, Outcome, refuse}
 use Rattle.guarantee.specs.Story.{Story, Call, to_open, to_advance, to_write, to_read, to_deliver, outcome_of, call_at, before, said_at, logged_at, part, Has, BeginsWrite, BeginsRead, BeginsAsWrite, BeginsAsRead, Gets, EndsWrite, EndsRead}
 use Rattle.guarantee.specs.Guarantee.{NeverBehind, NeverInvented, AlwaysRising, OneVersion, Written, EndOf, BegunOnce, WhatEndsHasBegun, Guarantee, EveryStory}
-use Rattle.guarantee.proofs.Bridge.{params_of, act_of, says_of, news_of, Framed, Accepted, none_logged}
+use Rattle.guarantee.proofs.CallEffects.{params_of, act_of, says_of, news_of, Framed, Accepted, none_logged}
 use Rattle.guarantee.proofs.CallSteps.{Refuses, Stepped, call_step}
 use Rattle.guarantee.proofs.Ends.{WriteEnds, write_ends, ReadEnds, read_ends, GetsVersion, gets_version_lem, asks_read, begins_next}
-use Rattle.guarantee.proofs.Fits.{fits_pair}
+use Rattle.guarantee.proofs.RangeFacts.{fits_pair}
 use Rattle.guarantee.proofs.Keeps.{ops_up, grows}
 use Rattle.guarantee.proofs.Kept.{Begun, Genuine, MsgOk, OpOk, AskingOk, SendingOk, ReadingOk, Small, Kept, May}
 use Rattle.guarantee.proofs.Next.{keeps, heard_next}
@@ -25,9 +25,9 @@ use Rattle.guarantee.proofs.Opens.{closed_step}
 use Rattle.guarantee.proofs.Operations.{pair_from}
 use Rattle.guarantee.proofs.Reacting.{reacts_gets}
 use Rattle.guarantee.proofs.Sets.{of_set_of}
-use Rattle.guarantee.proofs.Since.{sent_is, Settled, settled_grows, settles, SinceRead, since_read, read_not_behind, SinceWrite, since_write, version_rises, Late, Wise}
+use Rattle.guarantee.proofs.AfterWrite.{sent_is, Settled, settled_grows, settles, SinceRead, since_read, read_not_behind, SinceWrite, since_write, version_rises, Late, Wise}
 use Rattle.guarantee.proofs.Words.{at, at_cases, at_same, In, any_split, All, all_map, all-++, all_at, each_all}
-use Rattle.guarantee.proofs.World.{Params, World, Act, writes, reads, hears, run, world_of, reaction}
+use Rattle.guarantee.proofs.PlainState.{Params, PlainState, Act, writes, reads, hears, run, plain_of, reaction}
 
 never : {A : Type 0} → ◌≡◌ {A = ℕ} 0 1 → A
 never h = absurd (omega arith)
@@ -65,7 +65,7 @@ module _ (S : Story) (in_lawful : Lawful S.inputs) (out_lawful : Lawful S.output
     pub params : params_of S.inputs S.outputs s ≡ P
     pub framed : Framed s
     pub small : Small P
-    pub kept : Kept P (world_of s)
+    pub kept : Kept P (plain_of s)
 
   in_of : (P : Params) (s : State) → Live P s → Lawful P.inputs
   in_of P s l = subst (λ (Q : Params). Lawful Q.inputs) l.params in_lawful
@@ -83,7 +83,7 @@ module _ (S : Story) (in_lawful : Lawful S.inputs) (out_lawful : Lawful S.output
     params = ap (λ (f : Frame). record { inputs = S.inputs; outputs = S.outputs; counts = f.counts; lease = f.lease; drift = f.drift }) h.frame ∙ l.params;
     framed = h.framed;
     small = l.small;
-    kept = subst (Kept P) (sym h.world) (keeps P l.small (in_of P s l) (world_of s) l.kept a h.may);
+    kept = subst (Kept P) (sym h.world) (keeps P l.small (in_of P s l) (plain_of s) l.kept a h.may);
   }
 
   pub stayed : (s : State) (x : Outcome) → Refuses s x → x.after ≡ s
@@ -96,22 +96,22 @@ module _ (S : Story) (in_lawful : Lawful S.inputs) (out_lawful : Lawful S.output
   ]
 
   -- what every accepted call keeps holds from one call to any later one
-  carry : (P : Params) (X : World → Type 0) → ((W : World) → Small P → Lawful P.inputs → Lawful P.outputs → Kept P W → (a : Act) → May P a W → X W → X (run P a W))
-      → (t u : ℕ) → t ≤ u → Live P (before S t) → X (world_of (before S t)) → Live P (before S u) × X (world_of (before S u))
+  carry : (P : Params) (X : PlainState → Type 0) → ((W : PlainState) → Small P → Lawful P.inputs → Lawful P.outputs → Kept P W → (a : Act) → May P a W → X W → X (run P a W))
+      → (t u : ℕ) → t ≤ u → Live P (before S t) → X (plain_of (before S t)) → Live P (before S u) × X (plain_of (before S u))
   carry P X step t zero h l x = let e : t ≡ 0 = omega arith in
-      (subst (λ (k : ℕ). Live P (before S k)) e l, subst (λ (k : ℕ). X (world_of (before S k))) e x)
+      (subst (λ (k : ℕ). Live P (before S k)) e l, subst (λ (k : ℕ). X (plain_of (before S k))) e x)
   carry P X step t (suc u) h l x = elim (cases_lt u t) [
     | inl b ↦ let e : t ≡ suc u = omega arith in
-        (subst (λ (k : ℕ). Live P (before S k)) e l, subst (λ (k : ℕ). X (world_of (before S k))) e x)
+        (subst (λ (k : ℕ). Live P (before S k)) e l, subst (λ (k : ℕ). X (plain_of (before S k))) e x)
     | inr b ↦ let r = carry P X step t u b l x in next r.0 r.1
   ]
     where
-      next : Live P (before S u) → X (world_of (before S u)) → Live P (before S (suc u)) × X (world_of (before S (suc u)))
+      next : Live P (before S u) → X (plain_of (before S u)) → Live P (before S (suc u)) × X (plain_of (before S (suc u)))
       next l x = (
         live_next P u l,
         elim (happens P u l) [
-          | inl h ↦ subst (λ (s : State). X (world_of s)) (sym (stayed (before S u) (outcome_at u) h)) x
-          | inr h ↦ subst X (sym h.world) (step (world_of (before S u)) l.small (in_of P (before S u) l) (out_of P (before S u) l) l.kept (act_of (before S u) (call_at S u)) h.may x)
+          | inl h ↦ subst (λ (s : State). X (plain_of s)) (sym (stayed (before S u) (outcome_at u) h)) x
+          | inr h ↦ subst X (sym h.world) (step (plain_of (before S u)) l.small (in_of P (before S u) l) (out_of P (before S u) l) l.kept (act_of (before S u) (call_at S u)) h.may x)
         ],
       )
 
@@ -136,7 +136,7 @@ module _ (S : Story) (in_lawful : Lawful S.inputs) (out_lawful : Lawful S.output
   MsgTraced t (Invalidation i j o v) = Unit {0}
   MsgTraced t (InvalidationAnswer j i l) = Unit {0}
 
-  pub record Traced (t : ℕ) (W : World) : Type 0 where
+  pub record Traced (t : ℕ) (W : PlainState) : Type 0 where
     pub ops : (p : ℕ) → Begun W p → OpTraced t p (W.op p)
     pub msgs : All (MsgTraced t) W.sent
 
@@ -160,7 +160,7 @@ module _ (S : Story) (in_lawful : Lawful S.inputs) (out_lawful : Lawful S.output
   msg_later t (Invalidation i j o v) h = tt
   msg_later t (InvalidationAnswer j i l) h = tt
 
-  traced_later : (t : ℕ) (W : World) → Traced t W → Traced (suc t) W
+  traced_later : (t : ℕ) (W : PlainState) → Traced t W → Traced (suc t) W
   traced_later t W h = record {
     ops = λ p b. op_later t p (W.op p) (h.ops p b);
     msgs = all_map (MsgTraced t) (MsgTraced (suc t)) (msg_later t) W.sent h.msgs;
@@ -180,9 +180,9 @@ module _ (S : Story) (in_lawful : Lawful S.inputs) (out_lawful : Lawful S.output
 
   -- ---- one call more
 
-  module _ (P : Params) (t : ℕ) (in_story : t < calls) (l : Live P (before S t)) (T : Traced t (world_of (before S t))) where
-    abbrev W : World
-    W = world_of (before S t)
+  module _ (P : Params) (t : ℕ) (in_story : t < calls) (l : Live P (before S t)) (T : Traced t (plain_of (before S t))) where
+    abbrev W : PlainState
+    W = plain_of (before S t)
 
     -- the operations
     ops_next : (c : Call) → call_at S t ≡ c → Accepted P (before S t) (act_of (before S t) c) (outcome_at t)
@@ -282,9 +282,9 @@ module _ (S : Story) (in_lawful : Lawful S.inputs) (out_lawful : Lawful S.output
     new_traced h (Invalidation i j o v) n = tt
     new_traced h (InvalidationAnswer j i k) n = tt
 
-    pub traced_next : Traced (suc t) (world_of (before S (suc t)))
+    pub traced_next : Traced (suc t) (plain_of (before S (suc t)))
     traced_next = elim (happens P t l) [
-      | inl h ↦ subst (λ (s : State). Traced (suc t) (world_of s)) (sym (stayed (before S t) (outcome_at t) h)) (traced_later t W T)
+      | inl h ↦ subst (λ (s : State). Traced (suc t) (plain_of s)) (sym (stayed (before S t) (outcome_at t) h)) (traced_later t W T)
       | inr h ↦ subst (Traced (suc t)) (sym h.world) (record {
         ops = ops_next (call_at S t) refl h;
         msgs = subst (λ (ms : List Message). All (MsgTraced (suc t)) ms) (sym (sent_is P W (act_of (before S t) (call_at S t))))
@@ -298,7 +298,7 @@ module _ (S : Story) (in_lawful : Lawful S.inputs) (out_lawful : Lawful S.output
   pub record Known (t : ℕ) : Type 0 where
     pub P : Params
     pub live : Live P (before S t)
-    pub traced : Traced t (world_of (before S t))
+    pub traced : Traced t (plain_of (before S t))
 
   pub fine : (t : ℕ) → t ≤ calls → ((before S t).frame.is_open ≡ false) ⊎ Known t
   fine zero h = inl closed
@@ -342,8 +342,8 @@ module _ (S : Story) (in_lawful : Lawful S.inputs) (out_lawful : Lawful S.output
 
   -- ---- beginnings
 
-  abbrev world : ℕ → World
-  world t = world_of (before S t)
+  abbrev world : ℕ → PlainState
+  world t = plain_of (before S t)
 
   -- an operation begins with a call on an open field, and its number is the next one
   pub record Start (b p : ℕ) : Type 0 where
@@ -356,7 +356,7 @@ module _ (S : Story) (in_lawful : Lawful S.inputs) (out_lawful : Lawful S.output
       let k = known_at b h (λ n f. never (cc)) (λ f. never (cc)) in
       let a = accepted_at k.P b k.live (λ n f. never (cc)) in
       let r = begins_next k.P (world b) p (act_of (before S b) (call_at S b)) (sym a.said ∙ e) in
-      record { known = k; number = r.0; after = ap (λ (W : World). W.begun) a.world ∙ r.1 }
+      record { known = k; number = r.0; after = ap (λ (W : PlainState). W.begun) a.world ∙ r.1 }
 
   pub begun_grow : (P : Params) (t u : ℕ) → t ≤ u → Live P (before S t) → (world t).begun ≤ (world u).begun
   begun_grow P t u h l = (carry P (λ W. (world t).begun ≤ W.begun)
@@ -505,7 +505,7 @@ module _ (S : Story) (in_lawful : Lawful S.inputs) (out_lawful : Lawful S.output
       let l = e.known.live in
       let r : (c : ℕ) × (c < t) × BeginsWrite S c p e.how.write.object e.how.write.value = subst (OpTraced t p) e.how.op (e.known.traced.ops p e.begun) in
       let d = (same_write r.0 b p e.how.write.object e.how.write.value o x r.2 f).0 in
-      let s : Settled P (world (suc t)) o w = subst (λ (W : World). Settled P W o w) (sym e.step.world)
+      let s : Settled P (world (suc t)) o w = subst (λ (W : PlainState). Settled P W o w) (sym e.step.world)
       (subst (λ (z : ℕ). Settled P (run P (act_of (before S t) (call_at S t)) (world t)) z w) d
       (settles P l.small (in_of P (before S t) l) (out_of P (before S t) l) (world t) l.kept (act_of (before S t) (call_at S t)) p w y e.step.may e.how)) in
       carry P (λ W. Settled P W o w) (λ W small _ _ k a m x. settled_grows P W (run P a W) o w (grows P small W k a m) x) (suc t) u h (live_next P t l) s
@@ -513,7 +513,7 @@ module _ (S : Story) (in_lawful : Lawful S.inputs) (out_lawful : Lawful S.output
   -- ---- a read never goes behind
 
   -- when an operation begins, no message names it yet
-  unnamed_late : (P : Params) (small : Small P) (il : Lawful P.inputs) (ol : Lawful P.outputs) (W : World) → Kept P W → (q o w : ℕ) (N : List MemberSet) → q ≡ W.begun + 1
+  unnamed_late : (P : Params) (small : Small P) (il : Lawful P.inputs) (ol : Lawful P.outputs) (W : PlainState) → Kept P W → (q o w : ℕ) (N : List MemberSet) → q ≡ W.begun + 1
       → All (Late P small il ol q o w N) W.sent
   unnamed_late P small il ol W k q o w N e = all_map (MsgOk P W) (Late P small il ol q o w N) each W.sent k.msgs
     where
@@ -564,7 +564,7 @@ module _ (S : Story) (in_lawful : Lawful S.inputs) (out_lawful : Lawful S.output
 
   -- ---- a later write gets a higher version
 
-  unnamed_wise : (P : Params) (small : Small P) (il : Lawful P.inputs) (ol : Lawful P.outputs) (W : World) → Kept P W → (q w : ℕ) (N : List MemberSet) (j : ℕ) → q ≡ W.begun + 1
+  unnamed_wise : (P : Params) (small : Small P) (il : Lawful P.inputs) (ol : Lawful P.outputs) (W : PlainState) → Kept P W → (q w : ℕ) (N : List MemberSet) (j : ℕ) → q ≡ W.begun + 1
       → All (Wise P small il ol q w N j) W.sent
   unnamed_wise P small il ol W k q w N j e = all_map (MsgOk P W) (Wise P small il ol q w N j) each W.sent k.msgs
     where
@@ -636,7 +636,7 @@ module _ (S : Story) (in_lawful : Lawful S.inputs) (out_lawful : Lawful S.output
       R : ReadEnds P (world e) (act_of (before S e) (call_at S e)) q v z
       R = E.how
 
-      W : World
+      W : PlainState
       W = world e
 
       pair : Reading
@@ -648,7 +648,7 @@ module _ (S : Story) (in_lawful : Lawful S.inputs) (out_lawful : Lawful S.output
       ok : ReadingOk W q R.read
       ok = subst (OpOk P W q) R.op (l.kept.ops q E.begun)
 
-      V : World
+      V : PlainState
       V = run P (hears (ReadAnswer R.from q R.pair_version R.pair_value)) W
 
       heard : ReadingOk V q pair
@@ -712,7 +712,7 @@ module _ (S : Story) (in_lawful : Lawful S.inputs) (out_lawful : Lawful S.output
 
   -- once it has its version, a write never asks for clocks again
   past_after : (g p v : ℕ) → (G : Getting g p v) → (Begun (world (suc g)) p) × PastAsking ((world (suc g)).op p)
-  past_after g p v G = subst (λ (V : World). (Begun V p) × PastAsking (V.op p)) (sym G.step.world)
+  past_after g p v G = subst (λ (V : PlainState). (Begun V p) × PastAsking (V.op p)) (sym G.step.world)
       (subst (λ (a : Act). (Begun (run G.known.P a (world g)) p) × PastAsking ((run G.known.P a (world g)).op p)) (sym G.how.act) (G.begun, past))
     where
       P : Params

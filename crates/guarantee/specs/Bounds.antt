@@ -45,14 +45,14 @@ pub record InputBounds (lease made : ℕ) (I : Input) : Type 0 where
   -- a place for each object, for each output server, and for each object in what an output server acknowledged
   pub objects : length I.objects ≡ 16
   pub ledgers : length I.ledgers ≡ 8
-  pub acked : (j : ℕ) → j < 8 → length (ledger I j).acked ≡ 16
+  pub last_acknowledged : (j : ℕ) → j < 8 → length (ledger I j).last_acknowledged ≡ 16
   pub clock : I.clock.0 ≤ last_time
   pub highest : IsBetween 1 65535 I.lc
   pub version : (o : ℕ) → o < 16 → IsVersion (held I o).version
   -- an epoch rises by one at most with a call that makes a message
   pub epoch : (j : ℕ) → j < 8 → IsBetween 1 (made + 1) (ledger I j).epoch.0
   -- no lease ends later than one that is granted now
-  pub until : (j : ℕ) → (ledger I j).until.0 ≤ I.clock.0 + lease
+  pub lease_end : (j : ℕ) → (ledger I j).lease_end.0 ≤ I.clock.0 + lease
   pub chains : ChainBounds I.waiting
 
 pub record OutputBounds (O : Output) : Type 0 where
@@ -61,7 +61,7 @@ pub record OutputBounds (O : Output) : Type 0 where
   pub links : length O.links ≡ 8
   pub copies : (i : ℕ) → i < 8 → length (link O i).copies ≡ 16
   pub clock : O.clock.0 ≤ last_time
-  pub until : (i : ℕ) → (link O i).until.0 ≤ last_time + longest
+  pub lease_end : (i : ℕ) → (link O i).lease_end.0 ≤ last_time + longest
 
 -- ---- the field
 

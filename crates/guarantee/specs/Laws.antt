@@ -7,7 +7,7 @@ use Rattle.rules.specs.declared.message.Message.TheVariants.{WriteAnswer, Invali
 use Rattle.rules.specs.declared.pairs.Pair.{Pair}
 use Rattle.numbers.specs.declared.version.Version.{Version}
 use Rattle.rules.specs.Calls.{operation_at}
-use Rattle.rules.specs.Input.{Input, held, ledger, chain, last_ack, is_shut_out, queues_for, answers_write, acknowledges_all}
+use Rattle.rules.specs.Input.{Input, held, ledger, chain, last_acknowledged, is_shut_out, queues_for, answers_write, acknowledges_all}
 use Rattle.rules.specs.Operation.{ended}
 use Rattle.rules.specs.Output.{Output, newest_of, link, copy_of}
 use Rattle.rules.specs.Said.{refused}
@@ -54,7 +54,7 @@ pub record InputRises (I J : Input) : Type 0 where
   pub clock : I.clock.0 ≤ J.clock.0
   pub highest : I.lc ≤ J.lc
   pub held : (o : ℕ) → (held I o).version.0 ≤ (held J o).version.0
-  pub acked : (j o : ℕ) → last_ack I j o ≤ last_ack J j o
+  pub last_acknowledged : (j o : ℕ) → last_acknowledged I j o ≤ last_acknowledged J j o
   pub epoch : (j : ℕ) → (ledger I j).epoch.0 ≤ (ledger J j).epoch.0
 
 -- at an output server: its clock, each newest version, and from each input server what is known, the epochs of the copies,
@@ -65,7 +65,7 @@ pub record OutputRises (O Q : Output) : Type 0 where
   pub known : (i o : ℕ) → (copy_of (link O i) o).known.0 ≤ (copy_of (link Q i) o).known.0
   pub copy_epoch : (i o : ℕ) → (copy_of (link O i) o).epoch.0 ≤ (copy_of (link Q i) o).epoch.0
   pub lease_epoch : (i : ℕ) → (link O i).epoch.0 ≤ (link Q i).epoch.0
-  pub end_of_lease : (i : ℕ) → (link O i).until.0 ≤ (link Q i).until.0
+  pub end_of_lease : (i : ℕ) → (link O i).lease_end.0 ≤ (link Q i).lease_end.0
 
 pub record ServersRise (s t : State) : Type 0 where
   pub inputs : (i : ℕ) → InputRises (input_at s i) (input_at t i)
@@ -76,7 +76,7 @@ NothingFalls = AfterCalls ServersRise
 
 -- No lease that an input server granted is shortened, in a field within its bounds.
 abbrev pub LeasesStand : Type 0
-LeasesStand = AfterCalls (λ s t. Bounded s → (i j : ℕ) → (ledger (input_at s i) j).until.0 ≤ (ledger (input_at t i) j).until.0)
+LeasesStand = AfterCalls (λ s t. Bounded s → (i j : ℕ) → (ledger (input_at s i) j).lease_end.0 ≤ (ledger (input_at t i) j).lease_end.0)
 
 -- ---- who is told of a write, and who is named
 

@@ -21,5 +21,5 @@ LeasesRunOut =
     (S : Story) → Lawful S.inputs → Lawful S.outputs → S.start.frame.is_open ≡ false
     → (t : ℕ) → t ≤ length S.calls → (before S t).frame.is_open ≡ true
     → (i j : ℕ) → i < (before S t).frame.counts.n → j < (before S t).frame.counts.m
-    → (ledger (input_at (before S t) i) j).until.0 ≤ (input_at (before S t) i).clock.0
+    → (ledger (input_at (before S t) i) j).lease_end.0 ≤ (input_at (before S t) i).clock.0
     → AllOver (before S t) i j

@@ -101,7 +101,7 @@ Holds (advance_is_answered drift increments says) =
     ((opens drift).said ≡ accepted)
     × ((advancing (majority 1) (read_one_write_all 1) increments (opens drift).after).said ≡ says)
 Holds (lease_ends_at stamp length drift end) =
-    ((lease_end stamp length drift).0 ≡ end) × ((link (renewed stamp length drift stamp) 0).until.0 ≡ end)
+    ((lease_end stamp length drift).0 ≡ end) × ((link (renewed stamp length drift stamp) 0).lease_end.0 ≡ end)
 Holds (lease_is_live stamp length drift time answer) =
     (live (record { 0 = time }) (lease_end stamp length drift) ≡ answer) × (leased (renewed stamp length drift time) 0 ≡ answer)
 Holds (lease_is_never_live stamp length drift) =
@@ -112,10 +112,10 @@ Holds (write_has_ended inputs outputs heard counting answer) =
     × (is_written inputs outputs (hears_each heard sent) ≡ answer)
 Holds (renewal_is_answered count shown granted end) =
     (length (chain (waits count) 0) ≡ count)
-    × ((ledger (waits count) 0).until.0 ≡ 1000)
+    × ((ledger (waits count) 0).lease_end.0 ≡ 1000)
     × (answers_renewal 0 1000 0 (asked_for Both 500) (waits count) ≡ answer_with granted shown ∷ [])
     × (grants Both 0 (waits count) ≡ nat_lt 0 granted)
-    × ((ledger (after_renewal 1000 0 (asked_for Both 500) (waits count)) 0).until.0 ≡ end)
+    × ((ledger (after_renewal 1000 0 (asked_for Both 500) (waits count)) 0).lease_end.0 ≡ end)
 
 abbrev pub Each : List Line → Type 0
 Each [] = Unit {0}

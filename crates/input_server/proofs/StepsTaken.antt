@@ -9,7 +9,7 @@ use Rattle.rules.specs.declared.log.Log.{Log}
 use Rattle.rules.specs.declared.message.Message.{Message}
 use Rattle.rules.specs.declared.message.Message.TheVariants.{WriteAnswer}
 use Rattle.rules.specs.Input.{Input, is_shut_out, invalidation, invalidations, answers_write, takes_write, queues_all}
-use Rattle.rules.specs.Steps.{Step, step, steps, has_room, Logs}
+use Rattle.rules.specs.Steps.{ServerStep, step, steps, has_room, Logs}
 use Rattle.input_server.specs.Epochs.{have_epochs}
 use Rattle.input_server.specs.Steps.{write_step}
 
@@ -37,7 +37,7 @@ pub write_answered : (i p m o : ℕ) (v : Version) (x : ℕ) (I J K : Input) (lo
     → s.0 ≡ set_of m (is_shut_out K o)
     → write_step i p m o v x I log.made log.messages.now ≡ step (Ok tt) K after
 write_answered i p m o v x I J K log told after me s r h ej ek et en em es =
-    let S : Input → Step Input = λ (X : Input). steps X (answers_write i p m o X) log.made log.messages.now in
+    let S : Input → ServerStep Input = λ (X : Input). steps X (answers_write i p m o X) log.made log.messages.now in
     let w : WriteAnswer me p s ≡ WriteAnswer i p (record { 0 = set_of m (is_shut_out K o) }) =
     ap (λ (k : ℕ). WriteAnswer k p s) em ∙ ap (λ (n : ℕ). WriteAnswer i p (record { 0 = n })) es in
     cond-true (has_room log.made log.messages.now) _ _ r

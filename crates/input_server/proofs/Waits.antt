@@ -15,7 +15,7 @@ pub write_taken : (o p : ℕ) (v : Version) (x : ℕ) (I : Input) (lc clock : �
     → record {
       clock = I.clock;
       lc = lc;
-      objects = set I.objects p (record { version = v; value = x; given = (held I p).given });
+      objects = set I.objects p (record { version = v; value = x; last_read = (held I p).last_read });
       ledgers = I.ledgers;
       waiting = I.waiting;
     } ≡ takes_write o v x I
@@ -24,7 +24,7 @@ write_taken o p v x I lc clock e h m k =
     let J : ℕ → ℕ → Input = λ (n q : ℕ). record {
       clock = I.clock;
       lc = n;
-      objects = set I.objects q (record { version = v; value = x; given = (held I q).given });
+      objects = set I.objects q (record { version = v; value = x; last_read = (held I q).last_read });
       ledgers = I.ledgers;
       waiting = I.waiting;
     } in

@@ -9,14 +9,14 @@ use Rattle.rules.specs.Renewals.{asks_object}
 -- the server with a lease for output server j
 abbrev pub with_lease : ℕ → ℕ → Input → Input
 with_lease lease j I =
-    record I { ledgers = slice_set I.ledgers j (record (ledger I j) { until = record { 0 = I.clock.0 + lease } }) }
+    record I { ledgers = slice_set I.ledgers j (record (ledger I j) { lease_end = record { 0 = I.clock.0 + lease } }) }
 
 -- the server that has given the version that it holds, where it was asked for
 abbrev pub with_given : Renewal → Input → Input
 with_given r I = record I {
   objects =
       if asks_object r.parts
-      then slice_set I.objects r.object (record (held I r.object) { given = (held I r.object).version })
+      then slice_set I.objects r.object (record (held I r.object) { last_read = (held I r.object).version })
       else I.objects;
 }
 

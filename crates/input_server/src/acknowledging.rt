@@ -35,7 +35,7 @@ impl InputServer {
     fn acknowledge(&mut self, output: OutputNumber, pair: Pair)
         ensures { input_of self.new ≡ acknowledges output.number pair (input_of self.old) }
     {
-        let acked = raise_acked(&mut self.ledgers[output.index()].acked, pair);
+        let acked = raise_acked(&mut self.ledgers[output.index()].last_acknowledged, pair);
         self.chains.acknowledge(output, pair.object, acked);
     }
 }

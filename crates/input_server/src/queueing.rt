@@ -64,8 +64,8 @@ impl InputServer {
     fn is_owed(&self, output: OutputNumber, object: ObjectNumber) -> bool
         ensures { result ≡ owed (input_of self.now) object.number output.number }
     {
-        let given = self.objects[object.index()].given;
-        given != Version::NONE && self.ledgers[output.index()].acked[object.index()] <= given
+        let given = self.objects[object.index()].last_read;
+        given != Version::NONE && self.ledgers[output.index()].last_acknowledged[object.index()] <= given
     }
 
     // Where the records ran out, nothing waits any more, and a new epoch says so.

@@ -44,7 +44,7 @@ impl InputServer {
     pub(crate) fn grant(&mut self, output: OutputNumber, lease: LeaseLength)
         ensures { input_of self.new ≡ with_lease lease.micros output.number (input_of self.old) }
     {
-        self.ledgers[output.index()].until = self.clock.plus(lease);
+        self.ledgers[output.index()].lease_end = self.clock.plus(lease);
     }
 
     // The version held is given, if the object is asked for.
@@ -53,7 +53,7 @@ impl InputServer {
     {
         if renewal.value.parts.has_object() {
             let held = &mut self.objects[renewal.object().index()];
-            held.given = held.version;
+            held.last_read = held.version;
         }
     }
 

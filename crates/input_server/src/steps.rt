@@ -25,12 +25,12 @@ impl InputServer {
         let held = Held {
             version: Version::STARTING,
             value: 0,
-            given: Version::NONE,
+            last_read: Version::NONE,
         };
         let ledger = Ledger {
-            acked: [Version::NONE; OBJECTS],
+            last_acknowledged: [Version::NONE; OBJECTS],
             epoch: Epoch::FIRST,
-            until: Time::ZERO,
+            lease_end: Time::ZERO,
         };
         InputServer {
             clock,

@@ -20,11 +20,11 @@ impl InputServer {
         ensures { result ≡ is_shut_out (input_of self.now) object.number output }
     {
         let held = self.objects[object.index()];
-        let acked = self.ledgers[output as usize].acked[object.index()];
-        held.given == Version::NONE
-            || held.given < acked
+        let acked = self.ledgers[output as usize].last_acknowledged[object.index()];
+        held.last_read == Version::NONE
+            || held.last_read < acked
             || held.version <= acked
-            || self.ledgers[output as usize].until <= Time::from(self.clock)
+            || self.ledgers[output as usize].lease_end <= Time::from(self.clock)
     }
 
     // All that are shut out.

@@ -1,7 +1,7 @@
 // A write goes from state to state by its answers. Each state is a type of its own: an answer uses
 // the state up and gives the next one, and a refusal gives it back as it was.
 use anyhow::{Result, bail};
-use operation::{AskingStep, AskingWrite, End, SendingWrite, Step};
+use operation::{AskingProgress, AskingWrite, End, SendingWrite, Progress};
 use quorum::{QuorumSystem, Refusal, Systems};
 use rules::Message;
 use std::ops::ControlFlow;
@@ -15,8 +15,8 @@ pub(crate) fn ask<I: QuorumSystem, O: QuorumSystem>(
 ) -> Result<SendingWrite> {
     walk(rt, begun, answers, "asks", |write, answer| {
         Ok(match write.answer(answer, systems)? {
-            AskingStep::Asking(write) => ControlFlow::Continue(write),
-            AskingStep::Sending(write) => ControlFlow::Break(write),
+            AskingProgress::Asking(write) => ControlFlow::Continue(write),
+            AskingProgress::Sending(write) => ControlFlow::Break(write),
         })
     })
 }
@@ -31,8 +31,8 @@ pub(crate) fn send<I: QuorumSystem, O: QuorumSystem>(
 ) -> Result<End> {
     walk(rt, begun, answers, "sends", |write, answer| {
         Ok(match write.answer(answer, systems)? {
-            Step::On(write) => ControlFlow::Continue(write),
-            Step::Ended(end) => ControlFlow::Break(end),
+            Progress::On(write) => ControlFlow::Continue(write),
+            Progress::Ended(end) => ControlFlow::Break(end),
         })
     })
 }

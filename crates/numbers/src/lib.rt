@@ -14,10 +14,7 @@ mod time;
 mod version;
 
 pub use epoch::Epoch;
-pub use kinds::{
-    Input, InputNumber, Object, ObjectCount, ObjectNumber, Objects, Output, OutputNumber,
-    ServerCount, Servers,
-};
+pub use kinds::{InputIndex, InputNumber, ObjectCount, ObjectIndex, ObjectNumber, ObjectTotal, OutputIndex, OutputNumber, ServerCount, ServerTotal};
 pub use moment::{Drift, LeaseLength, Moment};
 pub use numbering::{Kind, Number};
 pub use operation_number::OperationNumber;

@@ -4,7 +4,7 @@ use Rattle.quorum.specs.Systems.{System}
 use Rattle.numbers.specs.Numbers.{between}
 use Rattle.rules.specs.declared.message.Message.{Message}
 use Rattle.rules.specs.Operation.{Operation, unused, asking, sending, reading, ended}
-use Rattle.rules.specs.Ranges.{Counts, numbers_fit, operation_fits, state_fits, has_room}
+use Rattle.rules.specs.Ranges.{Counts, numbers_fit, operation_fits, state_fits, has_next_clock}
 use Rattle.rules.specs.Reaction.{Reaction, reacts}
 
 -- the widest ranges that a field has: as many servers as the systems have members, 16 objects, 1,024 operations
@@ -31,7 +31,7 @@ own_number x = 0
 
 abbrev pub refusal_alone : System → System → Operation → Message → ℕ
 refusal_alone inputs outputs x m =
-    refusal_with inputs outputs (own_number x) (state_fits (widest inputs outputs) (own_number x) x) (has_room x) m
+    refusal_with inputs outputs (own_number x) (state_fits (widest inputs outputs) (own_number x) x) (has_next_clock x) m
 
 -- the same at a place of a table: one that is unused, or whose operation ended, takes every message
 abbrev pub refusal_at : System → System → Operation → Message → ℕ

@@ -2,12 +2,12 @@
 ghost use Rattle.std.specs.Prelude.{◌≡◌, ◌↔◌, ◌&&◌, ◌==◌, IsTrue, IsNone, IfSome};
 ghost use Rattle.numbers.specs.Numbers.{between};
 ghost use Rattle.rules.specs.Operation.{Operation};
-ghost use Rattle.rules.specs.Ranges.{operation_fits, state_fits, has_room};
+ghost use Rattle.rules.specs.Ranges.{operation_fits, state_fits, has_next_clock};
 ghost use Rattle.operation.specs.Alone.{too_many, widest, own_number, refusal_alone};
 ghost use Rattle.rules.specs.Counts.{counts_of};
 ghost use Rattle.operation.specs.Says.{Accepted};
 
-use numbers::{Kind, Object, ObjectCount, ServerCount};
+use numbers::{Kind, ObjectCount, ObjectIndex, ServerCount};
 use quorum::{QuorumSystem, Refusal, Systems};
 use rules::{Counts, MOST_OPERATIONS, Message};
 
@@ -20,7 +20,7 @@ fn widest<I: QuorumSystem, O: QuorumSystem>(systems: &Systems<I, O>) -> Option<C
     Some(Counts {
         inputs: ServerCount::try_from(systems.inputs.count()).ok()?,
         outputs: ServerCount::try_from(systems.outputs.count()).ok()?,
-        objects: ObjectCount::try_from(Object::LIMIT).ok()?,
+        objects: ObjectCount::try_from(ObjectIndex::LIMIT).ok()?,
     })
 }
 
@@ -37,13 +37,13 @@ pub(crate) trait State: Sized {
         ensures { result ≡ state_fits (counts_of counts) operation (meaning self.now) };
 
     // Whether there is a clock above the one that an asking write gathered.
-    fn has_room(&self) -> bool
-        ensures { result ≡ has_room (meaning self.now) };
+    fn has_next_clock(&self) -> bool
+        ensures { result ≡ has_next_clock (meaning self.now) };
 
     // Whether the operation that the message names, if it names one, is this one, begun and in range,
     // with room for a version where the message is a clock answer.
     final fn is_named(&self, message: &Message, counts: Counts) -> bool
-        ensures { let own = own_number (meaning self.now) in result ≡ operation_fits (λ p. (p == own) && (between 1 1024 own && state_fits (counts_of counts) own (meaning self.now))) (λ _. has_room (meaning self.now)) message.now }
+        ensures { let own = own_number (meaning self.now) in result ≡ operation_fits (λ p. (p == own) && (between 1 1024 own && state_fits (counts_of counts) own (meaning self.now))) (λ _. has_next_clock (meaning self.now)) message.now }
     {
         let Some(operation) = message.operation() else {
             return true;
@@ -53,7 +53,7 @@ pub(crate) trait State: Sized {
             && (1..=MOST_OPERATIONS).contains(&own)
             && self.fits(counts, own);
         match message {
-            Message::ClockAnswer { .. } => begun && self.has_room(),
+            Message::ClockAnswer { .. } => begun && self.has_next_clock(),
             _ => begun,
         }
     }

@@ -4,7 +4,7 @@ ghost use Rattle.operation.specs.Alone.{alone};
 ghost use Rattle.operation.specs.Says.{HandsBack, place_says};
 ghost use Rattle.operation.specs.States.{operation_of};
 
-use crate::steps::{AskingStep, Step};
+use crate::progress::{AskingProgress, Progress};
 use crate::table::{Operation, Reaction};
 use quorum::{QuorumSystem, Refusal, Systems};
 use rules::{Delivery, Message};
@@ -21,13 +21,13 @@ impl Operation {
     {
         match self {
             Operation::Asking(write) => match write.answer(message, systems) {
-                Ok(AskingStep::Asking(write)) => Ok(Reaction::On(Operation::Asking(write))),
-                Ok(AskingStep::Sending(write)) => Ok(Reaction::Sends(write)),
+                Ok(AskingProgress::Asking(write)) => Ok(Reaction::On(Operation::Asking(write))),
+                Ok(AskingProgress::Sending(write)) => Ok(Reaction::Sends(write)),
                 Err((refusal, write)) => Err((refusal, Operation::Asking(write))),
             },
             Operation::Sending(write) => match write.answer(message, systems) {
-                Ok(Step::On(write)) => Ok(Reaction::On(Operation::Sending(write))),
-                Ok(Step::Ended(end)) => Ok(Reaction::Ends(Delivery::WriteEnded {
+                Ok(Progress::On(write)) => Ok(Reaction::On(Operation::Sending(write))),
+                Ok(Progress::Ended(end)) => Ok(Reaction::Ends(Delivery::WriteEnded {
                     operation: end.operation,
                     version: end.version,
                     value: end.value,
@@ -35,8 +35,8 @@ impl Operation {
                 Err((refusal, write)) => Err((refusal, Operation::Sending(write))),
             },
             Operation::Reading(read) => match read.answer(message, systems) {
-                Ok(Step::On(read)) => Ok(Reaction::On(Operation::Reading(read))),
-                Ok(Step::Ended(end)) => Ok(Reaction::Ends(Delivery::ReadEnded {
+                Ok(Progress::On(read)) => Ok(Reaction::On(Operation::Reading(read))),
+                Ok(Progress::Ended(end)) => Ok(Reaction::Ends(Delivery::ReadEnded {
                     operation: end.operation,
                     version: end.version,
                     value: end.value,

@@ -9,7 +9,7 @@ ghost use Rattle.operation.specs.States.{asking_of, sending_of};
 use crate::alone::State;
 use crate::asking::AskingWrite;
 use crate::sending::SendingWrite;
-use crate::steps::AskingStep;
+use crate::progress::AskingProgress;
 use numbers::Version;
 use quorum::{MemberSet, QuorumSystem, Refusal, Systems};
 use rules::{Counts, Message, SERVERS};
@@ -34,7 +34,7 @@ impl AskingWrite {
         self,
         message: &Message,
         systems: &Systems<I, O>,
-    ) -> Result<AskingStep, (Refusal, AskingWrite)>
+    ) -> Result<AskingProgress, (Refusal, AskingWrite)>
         ensures does { alone (I.QuorumSystem.meaning systems.now.inputs) (O.QuorumSystem.meaning systems.now.outputs) message.now (asking (asking_of self)) ≡ asking_says (I.QuorumSystem.meaning systems.now.inputs) result }
         ensures same { HandsBack self result }
     {
@@ -43,12 +43,12 @@ impl AskingWrite {
             Message::ClockAnswer { input, clock, .. } => {
                 Ok(write.hear(*input, *clock, &systems.inputs))
             }
-            _ => Ok(AskingStep::Asking(write)),
+            _ => Ok(AskingProgress::Asking(write)),
         }
     }
 
     // The clock of one input server.
-    fn hear<I: QuorumSystem>(self, input: u8, clock: u16, inputs: &I) -> AskingStep
+    fn hear<I: QuorumSystem>(self, input: u8, clock: u16, inputs: &I) -> AskingProgress
         requires { (self.clock < 65535) × (clock < 65535) }
         ensures { asking_step (I.meaning inputs.now) result ≡ asks_next (I.meaning inputs.now) (hears_clock input clock (asking_of self)) }
     {
@@ -58,9 +58,9 @@ impl AskingWrite {
             ..self
         };
         if inputs.is_read_set(write.senders) {
-            AskingStep::Sending(write.with_version())
+            AskingProgress::Sending(write.with_version())
         } else {
-            AskingStep::Asking(write)
+            AskingProgress::Asking(write)
         }
     }
 
@@ -94,7 +94,7 @@ impl State for AskingWrite {
             && self.senders.is_within(counts.inputs.get())
     }
 
-    fn has_room(&self) -> bool {
+    fn has_next_clock(&self) -> bool {
         self.clock < u16::MAX
     }
 }

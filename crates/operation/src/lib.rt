@@ -10,12 +10,12 @@ mod read;
 mod reads;
 mod sending;
 mod sends;
-mod steps;
+mod progress;
 mod table;
 mod tells;
 
 pub use asking::AskingWrite;
 pub use read::Read;
 pub use sending::SendingWrite;
-pub use steps::{AskingStep, End, Step};
+pub use progress::{AskingProgress, End, Progress};
 pub use table::{Operation, Reaction};

@@ -1,6 +1,6 @@
 // Whether a place of the table is in range.
 ghost use Rattle.std.specs.Prelude.{◌≡◌};
-ghost use Rattle.rules.specs.Ranges.{state_fits, has_room};
+ghost use Rattle.rules.specs.Ranges.{state_fits, has_next_clock};
 ghost use Rattle.rules.specs.Counts.{counts_of};
 ghost use Rattle.operation.specs.States.{operation_of};
 
@@ -22,11 +22,11 @@ impl Operation {
     }
 
     // Whether there is a clock above the one that an asking write gathered.
-    pub fn has_room(&self) -> bool
-        ensures { result ≡ has_room (operation_of self.now) }
+    pub fn has_next_clock(&self) -> bool
+        ensures { result ≡ has_next_clock (operation_of self.now) }
     {
         match self {
-            Operation::Asking(write) => write.has_room(),
+            Operation::Asking(write) => write.has_next_clock(),
             Operation::Unused | Operation::Sending(_) | Operation::Reading(_) | Operation::Ended =>
                 true,
         }

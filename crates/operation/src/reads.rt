@@ -8,7 +8,7 @@ ghost use Rattle.operation.specs.States.{reading_of};
 
 use crate::alone::State;
 use crate::read::Read;
-use crate::steps::{End, Step};
+use crate::progress::{End, Progress};
 use numbers::Version;
 use quorum::{MemberSet, QuorumSystem, Refusal, Systems};
 use rules::{Counts, Message};
@@ -34,7 +34,7 @@ impl Read {
         self,
         message: &Message,
         systems: &Systems<I, O>,
-    ) -> Result<Step<Read>, (Refusal, Read)>
+    ) -> Result<Progress<Read>, (Refusal, Read)>
         ensures does { alone (I.QuorumSystem.meaning systems.now.inputs) (O.QuorumSystem.meaning systems.now.outputs) message.now (reading (reading_of self)) ≡ read_says result }
         ensures same { HandsBack self result }
     {
@@ -46,7 +46,7 @@ impl Read {
                 version,
                 value,
             } => Ok(read.hear(*output, *operation, *version, *value, &systems.outputs)),
-            _ => Ok(Step::On(read)),
+            _ => Ok(Progress::On(read)),
         }
     }
 
@@ -58,18 +58,18 @@ impl Read {
         version: Version,
         value: u64,
         outputs: &O,
-    ) -> Step<Read>
+    ) -> Progress<Read>
         ensures { read_step result ≡ reads_next (O.meaning outputs.now) operation (hears_pair output version value (reading_of self)) }
     {
         let read = self.with_pair(output, version, value);
         if outputs.is_read_set(read.senders) {
-            Step::Ended(End {
+            Progress::Ended(End {
                 operation,
                 version: read.version,
                 value: read.value,
             })
         } else {
-            Step::On(read)
+            Progress::On(read)
         }
     }
 
@@ -107,7 +107,7 @@ impl State for Read {
             && (self.version == Version::NONE || self.version.is_version())
     }
 
-    fn has_room(&self) -> bool {
+    fn has_next_clock(&self) -> bool {
         true
     }
 }

@@ -12,8 +12,8 @@ ghost use Rattle.operation.specs.States.{sending_of};
 
 use crate::alone::State;
 use crate::sending::SendingWrite;
-use crate::steps::{End, Step};
-use numbers::{Input, Kind};
+use crate::progress::{End, Progress};
+use numbers::{InputIndex, Kind};
 use quorum::{MemberSet, QuorumSystem, Refusal, Systems};
 use rules::{Counts, Message};
 
@@ -25,7 +25,7 @@ impl SendingWrite {
         self,
         message: &Message,
         systems: &Systems<I, O>,
-    ) -> Result<Step<SendingWrite>, (Refusal, SendingWrite)>
+    ) -> Result<Progress<SendingWrite>, (Refusal, SendingWrite)>
         ensures does { alone (I.QuorumSystem.meaning systems.now.inputs) (O.QuorumSystem.meaning systems.now.outputs) message.now (sending (sending_of self)) ≡ sending_says result }
         ensures same { HandsBack self result }
     {
@@ -36,7 +36,7 @@ impl SendingWrite {
                 operation,
                 shut_out,
             } => Ok(write.hear(*input, *operation, *shut_out, systems)),
-            _ => Ok(Step::On(write)),
+            _ => Ok(Progress::On(write)),
         }
     }
 
@@ -48,19 +48,19 @@ impl SendingWrite {
         operation: u16,
         set: MemberSet,
         systems: &Systems<I, O>,
-    ) -> Step<SendingWrite>
+    ) -> Progress<SendingWrite>
         requires { input < 8 }
         ensures { sending_step result ≡ sends_next (I.QuorumSystem.meaning systems.now.inputs) (O.QuorumSystem.meaning systems.now.outputs) operation (hears_named input set (sending_of self)) }
     {
         let write = self.with_named(input, set);
         if write.is_written(systems) {
-            Step::Ended(End {
+            Progress::Ended(End {
                 operation,
                 version: write.version,
                 value: write.value,
             })
         } else {
-            Step::On(write)
+            Progress::On(write)
         }
     }
 
@@ -126,7 +126,7 @@ impl SendingWrite {
     fn named_fit(&self, counts: Counts) -> bool
         ensures { result ≡ named_fit (counts_of counts) 8 self.now.named }
     {
-        (0..Input::LIMIT).all(|input| self.named_fits(input, counts))
+        (0..InputIndex::LIMIT).all(|input| self.named_fits(input, counts))
     }
 
     fn named_fits(&self, input: u8, counts: Counts) -> bool
@@ -155,7 +155,7 @@ impl State for SendingWrite {
             && self.named_fit(counts)
     }
 
-    fn has_room(&self) -> bool {
+    fn has_next_clock(&self) -> bool {
         true
     }
 }

@@ -1,14 +1,16 @@
 // Which places of a table are in range, where there are three input servers, two output servers and
 // four objects.
 use crate::handing::{sending, write};
-use operation::{AskingWrite, Counts, Operation, Read};
+use numbers::{ObjectCount, ServerCount};
+use operation::{AskingWrite, Operation, Read};
+use rules::Counts;
 use std::test::Fail;
 
 fn fits(place: Operation, operation: u16) -> bool {
     let counts = Counts {
-        inputs: 3,
-        outputs: 2,
-        objects: 4,
+        inputs: ServerCount::try_from(3).unwrap(),
+        outputs: ServerCount::try_from(2).unwrap(),
+        objects: ObjectCount::try_from(4).unwrap(),
     };
     place.fits(counts, operation)
 }
@@ -38,8 +40,8 @@ fn objects_are_those_that_there_are(rt: HostRuntime) {
 
 #[test]
 fn room_above_the_clock(rt: HostRuntime) -> Result<(), Fail> {
-    assert!(rt; write(7).has_room());
-    assert!(rt; sending()?.has_room());
-    assert!(rt; Operation::Unused.has_room());
+    assert!(rt; write(7).has_next_clock());
+    assert!(rt; sending()?.has_next_clock());
+    assert!(rt; Operation::Unused.has_next_clock());
     Ok(())
 }

@@ -1,9 +1,8 @@
 // Which numbers of a message are in range, where there are three input servers, two output servers
 // and four objects.
-use numbers::{Epoch, Time, Version};
-use operation::Counts;
+use numbers::{Epoch, ObjectCount, ServerCount, Time, Version};
 use quorum::MemberSet;
-use rules::{Message, Pair, Pairs, Parts, Renewal, Renewed};
+use rules::{Counts, Message, Pair, Pairs, Parts, Renewal, Renewed};
 use std::process::Abort;
 
 const LAST_TIME: Time = Time(1_099_511_627_776);
@@ -14,9 +13,9 @@ const BELOW_STARTING: Version = Version(65_535);
 
 fn fits(message: &Message) -> bool {
     let counts = Counts {
-        inputs: 3,
-        outputs: 2,
-        objects: 4,
+        inputs: ServerCount::try_from(3).unwrap(),
+        outputs: ServerCount::try_from(2).unwrap(),
+        objects: ObjectCount::try_from(4).unwrap(),
     };
     counts.fit(message)
 }

@@ -80,7 +80,7 @@ fn take_lease(link: &mut Link, renewed: &InRange<Renewed>, drift: Drift)
         let length = renewed.length();
         if length.micros() > 0 {
             let end = renewed.stamp().lease_end(length, drift);
-            link.until = link.until.max(end);
+            link.lease_end = link.lease_end.max(end);
         }
     }
 }

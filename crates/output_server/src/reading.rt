@@ -63,7 +63,7 @@ impl OutputServer {
         requires { input < 8 }
         ensures { result ≡ leased (output_of self.now) input }
     {
-        self.links[input as usize].until.is_live_at(self.clock())
+        self.links[input as usize].lease_end.is_live_at(self.clock())
     }
 
     // A renewal request to every input server that is not good, rising. It reads as the telling of an

@@ -12,10 +12,7 @@ ghost use Rattle.output_server.specs.Views.{output_of};
 
 use crate::server::OutputServer;
 use crate::taking::acknowledge;
-use numbers::{
-    Drift, Epoch, InputNumber, Moment, ObjectNumber, OperationNumber, OutputNumber, ServerCount,
-    Time, Version,
-};
+use numbers::{Drift, Epoch, InputNumber, Moment, ObjectNumber, OperationNumber, OutputNumber, ServerCount, Time, Version};
 use quorum::{QuorumSystem, Refusal};
 use rules::{
     Copied, InRange, Link, Log, Message, Newest, OBJECTS, Pair, Pairs, Renewed, SERVERS,
@@ -34,7 +31,7 @@ impl OutputServer {
         let link = Link {
             copies: [copied; OBJECTS],
             epoch: Epoch::NONE,
-            until: Time::ZERO,
+            lease_end: Time::ZERO,
         };
         let newest = Newest {
             version: Version::NONE,

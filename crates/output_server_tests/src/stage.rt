@@ -1,7 +1,5 @@
 // An output server with a log lent to it, and plain numbers in place of checked ones.
-use numbers::{
-    Drift, Epoch, InputNumber, Moment, ObjectNumber, OperationNumber, OutputNumber, Time, Version,
-};
+use numbers::{Drift, Epoch, InputNumber, Moment, ObjectNumber, OperationNumber, OutputNumber, Time, Version};
 use output_server::OutputServer;
 use quorum::Majority;
 use rules::{InRange, Log, Message, Pair, Pairs, Parts, Renewal, Renewed};

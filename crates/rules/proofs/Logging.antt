@@ -5,7 +5,7 @@ use lib.Seq.{length-sets}
 use Rattle.rules.specs.declared.log.Log.{Log}
 use Rattle.rules.specs.declared.message.Message.{Message}
 use Rattle.rules.specs.Lists.{each}
-use Rattle.rules.specs.Steps.{Step, made_now, step, steps, Logs}
+use Rattle.rules.specs.Steps.{ServerStep, made_now, step, steps, Logs}
 
 -- one run of stores after another is one run
 pub sets_append : {A : Type 0} (a b l : List A) (m : ℕ) → sets (sets l m a) (m + length a) b ≡ sets l m (a ++ b)
@@ -49,5 +49,5 @@ step_logs {A} x log after new p =
     ap (λ (n : ℕ). step_of n (sets log.messages.now log.made new)) (sym p.made)
     ∙ ap (step_of after.made) (sym p.messages)
   where
-    step_of : ℕ → List Message → Step A
+    step_of : ℕ → List Message → ServerStep A
     step_of n l = record { said = made_now n; server = x; log = l }

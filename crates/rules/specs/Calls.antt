@@ -11,7 +11,7 @@ use Rattle.rules.specs.Lists.{list_of, each}
 use Rattle.numbers.specs.Numbers.{between, keeps_pair, last_time, longest}
 use Rattle.rules.specs.Operation.{Operation, unused, asking, reading, first_asking, first_reading, clock_questions, read_requests}
 use Rattle.rules.specs.Output.{answers_read, after_answer, acknowledgement, after_invalidation, answers_invalidation, first_output, later_output}
-use Rattle.rules.specs.Ranges.{numbers_fit, operation_fits, state_fits, has_room}
+use Rattle.rules.specs.Ranges.{numbers_fit, operation_fits, state_fits, has_next_clock}
 use Rattle.rules.specs.Reaction.{Reaction, reacts}
 use Rattle.rules.specs.Said.{accepted, began, nothing_ended}
 use Rattle.rules.specs.State.{State, Outcome, outcome, refuse, input_at, output_at, post, with_input, with_output}
@@ -151,7 +151,7 @@ abbrev pub is_known : State → ℕ → Bool
 is_known s p = between 1 s.begun p && state_fits s.frame.counts p (operation_at s p)
 
 abbrev pub in_range : Message → State → Bool
-in_range x s = numbers_fit s.frame.counts x && operation_fits (is_known s) (λ p. has_room (operation_at s p)) x
+in_range x s = numbers_fit s.frame.counts x && operation_fits (is_known s) (λ p. has_next_clock (operation_at s p)) x
 
 abbrev pub quiet : State → Outcome
 quiet s = outcome nothing_ended s

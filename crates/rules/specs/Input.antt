@@ -28,10 +28,10 @@ pub record Input : Type 0 where
   pub waiting : List (List Pair)
 
 abbrev pub no_held : Held
-no_held = record { version = none; value = 0; given = none }
+no_held = record { version = none; value = 0; last_read = none }
 
 abbrev pub no_ledger : Ledger
-no_ledger = record { acked = []; epoch = record { 0 = 0 }; until = record { 0 = 0 } }
+no_ledger = record { last_acknowledged = []; epoch = record { 0 = 0 }; lease_end = record { 0 = 0 } }
 
 -- ---- words
 
@@ -46,18 +46,18 @@ chain I j = slice_index_or I.waiting j []
 
 -- the highest version of o given to an output server; all of them share one number
 abbrev pub last_read : Input → ℕ → ℕ → ℕ
-last_read I j o = (held I o).given.0
+last_read I j o = (held I o).last_read.0
 
-abbrev pub last_ack : Input → ℕ → ℕ → ℕ
-last_ack I j o = (slice_index_or (ledger I j).acked o none).0
+abbrev pub last_acknowledged : Input → ℕ → ℕ → ℕ
+last_acknowledged I j o = (slice_index_or (ledger I j).last_acknowledged o none).0
 
 -- output server j is shut out for o
 abbrev pub is_shut_out : Input → ℕ → ℕ → Bool
 is_shut_out I o j =
     (last_read I j o == 0)
-    || (nat_lt (last_read I j o) (last_ack I j o)
-    || (nat_le (held I o).version.0 (last_ack I j o)
-    || nat_le (ledger I j).until.0 I.clock.0))
+    || (nat_lt (last_read I j o) (last_acknowledged I j o)
+    || (nat_le (held I o).version.0 (last_acknowledged I j o)
+    || nat_le (ledger I j).lease_end.0 I.clock.0))
 
 -- ---- the chains
 
@@ -101,7 +101,7 @@ takes_write o v x I =
 
 -- j has to be told of a write of o
 abbrev pub owed : Input → ℕ → ℕ → Bool
-owed I o j = not (last_read I j o == 0) && nat_le (last_ack I j o) (last_read I j o)
+owed I o j = not (last_read I j o == 0) && nat_le (last_acknowledged I j o) (last_read I j o)
 
 abbrev pub with_chain : ℕ → List Pair → Epoch → Input → Input
 with_chain j c e I = record I {
@@ -164,11 +164,11 @@ abbrev pub after_renewal : ℕ → ℕ → Renewal → Input → Input
 after_renewal lease j r I = record I {
   objects =
       if asks_object r.parts
-      then slice_set I.objects r.object (record (held I r.object) { given = (held I r.object).version })
+      then slice_set I.objects r.object (record (held I r.object) { last_read = (held I r.object).version })
       else I.objects;
   ledgers =
       if grants r.parts j I
-      then slice_set I.ledgers j (record (ledger I j) { until = record { 0 = I.clock.0 + lease } })
+      then slice_set I.ledgers j (record (ledger I j) { lease_end = record { 0 = I.clock.0 + lease } })
       else I.ledgers;
 }
 
@@ -177,9 +177,9 @@ after_renewal lease j r I = record I {
 -- raise what j acknowledged, and free the record that this covers
 abbrev pub acknowledges : ℕ → Pair → Input → Input
 acknowledges j x I =
-    let acked : Version = raised (slice_index_or (ledger I j).acked x.object none) x.version in
+    let acked : Version = raised (slice_index_or (ledger I j).last_acknowledged x.object none) x.version in
     record I {
-      ledgers = slice_set I.ledgers j (record (ledger I j) { acked = slice_set (ledger I j).acked x.object acked });
+      ledgers = slice_set I.ledgers j (record (ledger I j) { last_acknowledged = slice_set (ledger I j).last_acknowledged x.object acked });
       waiting = slice_set I.waiting j (freed x.object acked (chain I j));
     }
 
@@ -193,8 +193,8 @@ abbrev pub first_input : Time → Input
 first_input clock = record {
   clock = clock;
   lc = 1;
-  objects = replicate 16 (record { version = starting; value = 0; given = none });
-  ledgers = replicate 8 (record { acked = replicate 16 none; epoch = record { 0 = 1 }; until = record { 0 = 0 } });
+  objects = replicate 16 (record { version = starting; value = 0; last_read = none });
+  ledgers = replicate 8 (record { last_acknowledged = replicate 16 none; epoch = record { 0 = 1 }; lease_end = record { 0 = 0 } });
   waiting = replicate 8 [];
 }
 

@@ -32,7 +32,7 @@ abbrev pub no_copy : Copied
 no_copy = record { got = none; known = none; epoch = record { 0 = 0 } }
 
 abbrev pub no_link : Link
-no_link = record { copies = []; epoch = record { 0 = 0 }; until = record { 0 = 0 } }
+no_link = record { copies = []; epoch = record { 0 = 0 }; lease_end = record { 0 = 0 } }
 
 -- ---- words
 
@@ -53,7 +53,7 @@ abbrev pub sound : Output → ℕ → ℕ → Bool
 sound O o i = sound_copy (link O i).epoch (copy_of (link O i) o)
 
 abbrev pub leased : Output → ℕ → Bool
-leased O i = live O.clock (link O i).until
+leased O i = live O.clock (link O i).lease_end
 
 -- input server i is good for o
 abbrev pub good : Output → ℕ → ℕ → Bool
@@ -118,7 +118,7 @@ takes_lease drift y l =
     if asks_volume y.renewal.parts
     then record l {
       epoch = later l.epoch y.epoch;
-      until = if nat_lt 0 y.length then longer l.until (lease_end y.renewal.stamp.0 y.length drift) else l.until;
+      lease_end = if nat_lt 0 y.length then longer l.lease_end (lease_end y.renewal.stamp.0 y.length drift) else l.lease_end;
     }
     else l
 
@@ -159,7 +159,7 @@ abbrev pub first_output : Time → Output
 first_output clock = record {
   clock = clock;
   newest = replicate 16 no_newest;
-  links = replicate 8 (record { copies = replicate 16 no_copy; epoch = record { 0 = 0 }; until = record { 0 = 0 } });
+  links = replicate 8 (record { copies = replicate 16 no_copy; epoch = record { 0 = 0 }; lease_end = record { 0 = 0 } });
 }
 
 abbrev pub later_output : ℕ → Output → Output

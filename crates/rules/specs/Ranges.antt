@@ -118,6 +118,6 @@ state_fits c p (reading r) = reading_fits c p r
 state_fits c p x = true
 
 -- there is a clock above the one that an asking write gathered
-abbrev pub has_room : Operation → Bool
-has_room (asking a) = not (a.clock == 65535)
-has_room x = true
+abbrev pub has_next_clock : Operation → Bool
+has_next_clock (asking a) = not (a.clock == 65535)
+has_next_clock x = true

@@ -12,7 +12,7 @@ pub data StepSaid : Type 0 where
   made_now : ℕ → StepSaid
   refused : ℕ → StepSaid
 
-pub record Step (A : Type 0) : Type 0 where
+pub record ServerStep (A : Type 0) : Type 0 where
   pub said : StepSaid
   pub server : A
   pub log : List Message
@@ -23,21 +23,21 @@ step_says made (Ok u) = made_now made
 step_says made (Err e) = refused (number_of e)
 
 -- what the code leaves
-abbrev pub step : {A : Type 0} → Result (Unit {0}) Refusal → A → Log → Step A
+abbrev pub step : {A : Type 0} → Result (Unit {0}) Refusal → A → Log → ServerStep A
 step r a log = record { said = step_says log.made r; server = a; log = log.messages.now }
 
 -- the step is taken: the server becomes b, and messages are logged after those made before
-abbrev pub steps : {A : Type 0} → A → List Message → ℕ → List Message → Step A
+abbrev pub steps : {A : Type 0} → A → List Message → ℕ → List Message → ServerStep A
 steps b new made log = record { said = made_now (made + length new); server = b; log = sets log made new }
 
-abbrev pub stays : {A : Type 0} → ℕ → A → List Message → Step A
+abbrev pub stays : {A : Type 0} → ℕ → A → List Message → ServerStep A
 stays number a log = record { said = refused number; server = a; log = log }
 
 -- a step that logs asks for nine free places, as a delivery does
 abbrev pub has_room : ℕ → List Message → Bool
 has_room made log = nat_le (made + 9) (length log)
 
-abbrev pub with_room : {A : Type 0} → A → ℕ → List Message → Step A → Step A
+abbrev pub with_room : {A : Type 0} → A → ℕ → List Message → ServerStep A → ServerStep A
 with_room a made log x = if has_room made log then x else stays 32 a log
 
 -- ---- a log that is lent

@@ -7,7 +7,7 @@ ghost use Rattle.rules.specs.Widest.{pair_widens, list_widens, renewal_widens, r
 use crate::limits::MOST_PAIRS;
 use crate::pairs::{Pair, Pairs};
 use crate::renewal::{Renewal, Renewed};
-use numbers::{Kind, LeaseLength, Moment, Object, ObjectCount, ObjectNumber, Version};
+use numbers::{Kind, LeaseLength, Moment, ObjectCount, ObjectIndex, ObjectNumber, Version};
 use quorum::Refusal;
 use std::alloc::AllocError;
 
@@ -49,7 +49,7 @@ impl<T: Ranged> InRange<T> {
     pub fn alone(value: T) -> Result<InRange<T>, Refusal>
         ensures { TestsRange (λ r. r.value) (T.fits 16 value) value result }
     {
-        let objects = ObjectCount::try_from(Object::LIMIT).map_err(|_| Refusal::OutOfRange)?;
+        let objects = ObjectCount::try_from(ObjectIndex::LIMIT).map_err(|_| Refusal::OutOfRange)?;
         InRange::new(value, objects)
     }
 

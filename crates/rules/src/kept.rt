@@ -9,16 +9,16 @@ pub struct Held {
     pub version: Version,
     pub value: u64,
     // the highest version that was given to any output server
-    pub given: Version,
+    pub last_read: Version,
 }
 
 // What an input server keeps of one output server, beside its chain of waiting invalidations.
 #[derive(Clone, Copy)]
 pub struct Ledger {
     // for each object the highest version that was acknowledged
-    pub acked: [Version; OBJECTS],
+    pub last_acknowledged: [Version; OBJECTS],
     pub epoch: Epoch,
-    pub until: Time,
+    pub lease_end: Time,
 }
 
 // The newest version and value of one object that an output server was given.
@@ -41,5 +41,5 @@ pub struct Copied {
 pub struct Link {
     pub copies: [Copied; OBJECTS],
     pub epoch: Epoch,
-    pub until: Time,
+    pub lease_end: Time,
 }

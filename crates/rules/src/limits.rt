@@ -1,11 +1,11 @@
 // How far a field goes, and what it is lent.
-use numbers::{Input, Kind, Object};
+use numbers::{InputIndex, Kind, ObjectIndex};
 
 // The most servers of a side. Both sides have the same limit.
-pub const SERVERS: usize = Input::LIMIT as usize;
+pub const SERVERS: usize = InputIndex::LIMIT as usize;
 
 // The most objects.
-pub const OBJECTS: usize = Object::LIMIT as usize;
+pub const OBJECTS: usize = ObjectIndex::LIMIT as usize;
 
 // The most messages that a step makes.
 pub const STEP_MESSAGES: usize = 9;

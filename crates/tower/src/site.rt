@@ -9,7 +9,7 @@ use operation::Operation;
 use quorum::{Majority, ReadOneWriteAll, Systems};
 use rules::{Delivery, Message};
 use std::alloc::Global;
-use telling::{Told, ToldEnd};
+use wording::{Told, ToldEnd};
 
 pub(crate) const SERVERS: u8 = 8;
 

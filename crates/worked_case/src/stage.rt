@@ -6,7 +6,7 @@ use operation::Operation;
 use quorum::{Majority, Systems};
 use rules::{Delivery, Message};
 use std::alloc::Global;
-use telling::{Told, ToldEnd};
+use wording::{Told, ToldEnd};
 
 // The one object.
 const OBJECT: u64 = 0;

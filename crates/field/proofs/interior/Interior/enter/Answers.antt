@@ -1,5 +1,0 @@
-use Rattle.field.proofs.Begins.{entered}
-use Rattle.field.proofs.interior.Interior.enter.Goals as goal
-
-pub returns : goal.returns
-returns c = λ log. entered c.args.self.now log c.args.table.now c.args.operation
