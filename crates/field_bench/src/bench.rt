@@ -230,8 +230,8 @@ pub fn by_majority(
     Ok(bench.opened(opening(2))?)
 }
 
-/// Two servers on each side, and operation 1, a write of 7 to object 0. Its two clock questions are all
-/// that is made.
+/// Two servers on each side, and operation 1, a write of 7 to object 0. Its two clock questions are
+/// all that is made.
 pub fn with_a_write(alloc: Global) -> Result<Bench<Majority, Majority>, Fail> {
     let mut bench = by_majority(alloc, 2, 2)?;
     bench.write(0, 7)?;

@@ -1,6 +1,7 @@
-// A bench for tests of a field: the field with all that it is lent, messages in short, and a quorum system
-// of the tests' own. Of a bench nothing says what it returns: tests look at what the code does, and
-// not at what it promises. What a test expects and does not find is a `Fail` that tells both.
+// A bench for tests of a field: the field with all that it is lent, messages in short, and a quorum
+// system of the tests' own. Nothing here but the grid says what it returns: tests look at what the
+// code does, and not at what it promises. What a test expects and does not find is a `Fail` that
+// tells both.
 #![tactic(auto)]
 
 mod bench;

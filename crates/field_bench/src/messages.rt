@@ -80,7 +80,8 @@ pub struct Renewal {
 }
 
 impl Renewal {
-    /// Of both parts, asked for at 0, in the first epoch, with a lease of 1,000 and nothing waiting.
+    /// Of both parts, asked for at 0, in the first epoch, with a lease of 1,000 and nothing
+    /// waiting.
     pub fn of_both(version: Version, value: u64) -> Renewal {
         Renewal {
             parts: Parts::Both,

@@ -232,7 +232,7 @@ fn the_first_range_that_is_broken_counts(rt: HostRuntime) -> Result<(), Fail> {
         (log, Some(7)),
         (table, None),
     ] {
-        trial.expect("the first", rt.alloc(), refused)?;
+        trial.expect("the first refusal", rt.alloc(), refused)?;
     }
     Ok(())
 }
