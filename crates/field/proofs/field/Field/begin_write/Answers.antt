@@ -23,7 +23,7 @@ unfolding outcome_of
 invariant_of-self-2 g c =
     let i = g.I.QuorumSystem.meaning c.args.systems.now.inputs in
     let o = g.O.QuorumSystem.meaning c.args.systems.now.outputs in
-    let opened : c.args.self.now.inside ≡ Some c.in_ok-inside.open.now = search rules in
+    let opened : c.args.self.now.inside ≡ Some c.in_ok-inside.inside.now = search rules in
     let does = ap (λ (f : Option OpenField). beginning_write i o c.args.object c.args.value (field_of f c.args.log.now c.args.table.now)) opened ∙ c.begin_write.ensures.does in
     record {
       sound =
@@ -36,7 +36,7 @@ unfolding outcome_of
 returns-clause-guaranteed g c =
     let i = g.I.QuorumSystem.meaning c.args.systems.now.inputs in
     let o = g.O.QuorumSystem.meaning c.args.systems.now.outputs in
-    let opened : c.args.self.now.inside ≡ Some c.in_ok-inside.open.now = search rules in
+    let opened : c.args.self.now.inside ≡ Some c.in_ok-inside.inside.now = search rules in
     guaranteed i o (g.met.I.QuorumSystem.lawful c.args.systems.now.inputs) (g.met.O.QuorumSystem.lawful c.args.systems.now.outputs) (to_write c.args.object c.args.value) _
     (field_of (Some c.begin_write.new.self) c.begin_write.new.log c.begin_write.new.table) (beginning_says c.begin_write.result)
     (ap (λ (f : Option OpenField). beginning_write i o c.args.object c.args.value (field_of f c.args.log.now c.args.table.now)) opened ∙ c.begin_write.ensures.does)
