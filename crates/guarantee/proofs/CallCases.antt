@@ -1,6 +1,6 @@
 -- The ways that a call can go. It refuses and alters nothing, or it has passed its tests and then does one of a few things.
 -- What holds of each of these holds of every call.
-use Rattle.std.proofs.Common.{◌≡◌, ℕ, zero, suc, ◌+◌, ◌<◌, ◌≤◌, true, false, cond, not, ◌&&◌, ◌||◌, eqb, ltb, leb, ◌⊎◌, List, [], ◌∷◌, length, get_or, sym, refl, ap, ◌∙◌, subst, inl, inr, arith, length-append, length-set}
+use Rattle.std.proofs.Common.{◌≡◌, ℕ, Option, zero, suc, ◌+◌, ◌<◌, ◌≤◌, true, false, cond, not, ◌&&◌, ◌||◌, eqb, ltb, leb, ◌⊎◌, List, [], ◌∷◌, length, get_or, sym, refl, ap, ◌∙◌, subst, inl, inr, arith, length-append, length-set}
 use Rattle.std.proofs.lemmas.Bool.{cases_eq, cond_both, and_parts, or_parts, not-false, eqb-true, ltb-false, leb-true, leb-false}
 use Rattle.quorum.specs.Sets.{set_of}
 use Rattle.quorum.specs.Systems.{System}
@@ -8,13 +8,14 @@ use Rattle.rules.specs.declared.message.Message.{Message}
 use Rattle.rules.specs.declared.message.Message.TheVariants.{ClockQuestion, ClockAnswer, WriteRequest, WriteAnswer, ReadRequest, ReadAnswer, RenewalRequest, RenewalAnswer, Invalidation, InvalidationAnswer}
 use Rattle.numbers.specs.declared.time.Time.{Time}
 use Rattle.numbers.specs.declared.version.Version.{Version}
-use Rattle.rules.specs.Calls.{opened, clocks_fit, opening, as_opened, when_open, has_nine, inputs_stay, outputs_stay, keeps_drift, later_inputs, later_outputs, advanced, advancing}
+use Rattle.rules.specs.Calls.{opened, clocks_fit, opening, as_opened, unless, later_refusal, inputs_stay, outputs_stay, keeps_drift, later_inputs, later_outputs, advanced, advancing}
 use Rattle.rules.specs.Calls.{enter, beginning, beginning_write, beginning_read, operation_at, is_known, in_range, reacted, handed_to, quiet, receives, message_at, delivering}
 use Rattle.rules.specs.Input.{Input, ledger, is_shut_out, invalidations, answers_clock, after_write, answers_write, after_renewal, answers_renewal, acknowledges_all, later_input}
 use Rattle.rules.specs.Lists.{list_of}
 use Rattle.numbers.specs.Numbers.{between, is_version, last_time, longest}
 use Rattle.rules.specs.Operation.{Operation, asking, reading, ended, first_asking, first_reading, clock_questions, read_requests}
 use Rattle.rules.specs.Output.{Output, good, valid, asks_all, answers_read, after_answer, acknowledgement, after_invalidation, answers_invalidation, later_output}
+use Rattle.rules.specs.Steps.{has_room}
 use Rattle.rules.specs.Ranges.{numbers_fit, state_fits, has_next_clock}
 use Rattle.rules.specs.Reaction.{Reaction, reacts}
 use Rattle.rules.specs.Said.{Said, refused, accepted, began}
@@ -22,6 +23,7 @@ use Rattle.rules.specs.State.{State, Outcome, outcome, refuse, no_input, no_outp
 use Rattle.guarantee.specs.Bounds.{IsVersion, InputBounds, OutputBounds}
 use Rattle.guarantee.specs.Laws.{InputRises, OutputRises}
 use Rattle.guarantee.specs.Story.{Call, to_open, to_advance, to_write, to_read, to_deliver, outcome_of}
+use Rattle.guarantee.proofs.Rows.{row, later_row}
 use Rattle.guarantee.proofs.RangeFacts.{within_range, RequestFits, RenewalFits, RenewedFits, fits_request, fits_renewal, fits_renewed, fits_invalidation, fits_ack}
 use Rattle.guarantee.proofs.InputMoves.{length_write, lease_end_write, lease_end_renewal, keeps_acknowledgement}
 use Rattle.guarantee.proofs.OutputMoves.{ack_length}
@@ -117,13 +119,13 @@ pub opening_ways : (inputs outputs : System) (k lease drift : ℕ) (clocks : Lis
     → P (opening inputs outputs k lease drift clocks s)
 unfolding opening
 opening_ways inputs outputs k lease drift clocks s P stop go =
-    cond_both s.frame.is_open (refuse 1 s) _ P (λ _. stop 1) (λ a.
-    cond_both (ltb 8 inputs.count || ltb 8 outputs.count) (refuse 2 s) _ P (λ _. stop 2) (λ b.
-    cond_both (not (between 1 16 k)) (refuse 3 s) _ P (λ _. stop 3) (λ c.
-    cond_both (not (between 1 longest lease)) (refuse 4 s) _ P (λ _. stop 4) (λ d.
-    cond_both (ltb 999 drift) (refuse 5 s) _ P (λ _. stop 5) (λ e.
-    cond_both (not (eqb (length clocks) (inputs.count + outputs.count) && clocks_fit clocks)) (refuse 6 s) _ P (λ _. stop 6) (λ f.
-    cond_both (not (between 9 65535 (length s.log) && between 1 1024 (length s.table))) (refuse 7 s) _ P (λ _. stop 7) (λ g.
+    row s.frame.is_open 1 _ s _ P (λ _. stop 1) (λ a.
+    row (ltb 8 inputs.count || ltb 8 outputs.count) 2 _ s _ P (λ _. stop 2) (λ b.
+    row (not (between 1 16 k)) 3 _ s _ P (λ _. stop 3) (λ c.
+    row (not (between 1 longest lease)) 4 _ s _ P (λ _. stop 4) (λ d.
+    row (ltb 999 drift) 5 _ s _ P (λ _. stop 5) (λ e.
+    row (not (eqb (length clocks) (inputs.count + outputs.count) && clocks_fit clocks)) 6 _ s _ P (λ _. stop 6) (λ f.
+    row (not (between 9 65535 (length s.log) && between 1 1024 (length s.table))) 7 _ s _ P (λ _. stop 7) (λ g.
     let counts = or_parts (ltb 8 inputs.count) (ltb 8 outputs.count) b in
     let started = and_parts (eqb (length clocks) (inputs.count + outputs.count)) (clocks_fit clocks) (not-false _ f) in
     let lengths = and_parts (between 9 65535 (length s.log)) (between 1 1024 (length s.table)) (not-false _ g) in
@@ -141,12 +143,9 @@ opening_ways inputs outputs k lease drift clocks s P stop go =
 
 -- ---- what every later call asks first
 
-pub when_ways : (inputs outputs : System) (s : State) (x : Outcome) (P : Outcome → Type 0) → ((number : ℕ) → P (refuse number s))
-    → (Found inputs outputs s → P x) → P (when_open inputs outputs s x)
-when_ways inputs outputs s x P stop go =
-    cond_both s.frame.is_open (cond (as_opened inputs outputs s) x (refuse 9 s)) (refuse 8 s) P
-    (λ a. cond_both (as_opened inputs outputs s) x (refuse 9 s) P (λ b. go (found a b)) (λ _. stop 9))
-    (λ _. stop 8)
+pub later_ways : (inputs outputs : System) (own : Option ℕ) (s : State) (x : Outcome) (P : Outcome → Type 0) → ((number : ℕ) → P (refuse number s))
+    → (Found inputs outputs s → P (unless own s x)) → P (unless (later_refusal inputs outputs s own) s x)
+later_ways inputs outputs own s x P stop go = later_row inputs outputs own s x P stop (λ a b. go (found a b))
   where
     found : s.frame.is_open ≡ true → as_opened inputs outputs s ≡ true → Found inputs outputs s
     found a b =
@@ -189,10 +188,10 @@ pub advancing_ways : (inputs outputs : System) (increments : List ℕ) (s : Stat
     → (Found inputs outputs s → Stays increments s → P (outcome accepted (advanced increments s)))
     → P (advancing inputs outputs increments s)
 unfolding advancing
-advancing_ways inputs outputs increments s P stop go = when_ways inputs outputs s _ P stop (λ found.
-    cond_both (not (eqb (length increments) (s.frame.counts.n + s.frame.counts.m))) (refuse 11 s) _ P (λ _. stop 11) (λ a.
-    cond_both (not (inputs_stay increments s.frame.counts.n s && outputs_stay increments s.frame.counts.m s)) (refuse 12 s) _ P (λ _. stop 12) (λ b.
-    cond_both (not (keeps_drift s.frame.drift increments)) (refuse 13 s) _ P (λ _. stop 13) (λ c.
+advancing_ways inputs outputs increments s P stop go = later_ways inputs outputs _ s _ P stop (λ found.
+    row (not (eqb (length increments) (s.frame.counts.n + s.frame.counts.m))) 11 _ s _ P (λ _. stop 11) (λ a.
+    row (not (inputs_stay increments s.frame.counts.n s && outputs_stay increments s.frame.counts.m s)) 12 _ s _ P (λ _. stop 12) (λ b.
+    row (not (keeps_drift s.frame.drift increments)) 13 _ s _ P (λ _. stop 13) (λ c.
     let stay = and_parts (inputs_stay increments s.frame.counts.n s) (outputs_stay increments s.frame.counts.m s) (not-false _ b) in
     go found (record {
       inputs = inputs_stay_lem increments s.frame.counts.n s stay.0;
@@ -336,11 +335,11 @@ pub beginning_ways : (inputs outputs : System) (o : ℕ) (x : Operation) (reques
     → ((number : ℕ) → P (refuse number s))
     → (Found inputs outputs s → s.begun < length s.table → Nine s → P (outcome (began (s.begun + 1)) (post requests (enter x s))))
     → P (beginning inputs outputs o x requests s)
-beginning_ways inputs outputs o x requests s P stop go = when_ways inputs outputs s _ P stop (λ found.
-    cond_both (leb s.frame.counts.k o) (refuse 21 s) _ P (λ _. stop 21) (λ a.
-    cond_both (leb (length s.table) s.begun) (refuse 22 s) _ P (λ _. stop 22) (λ b.
-    cond_both (not (has_nine s)) (refuse 23 s) _ P (λ _. stop 23) (λ c.
-    go found (leb-false (length s.table) s.begun b) (leb-true (s.made + 9) (length s.log) (not-false (has_nine s) c))))))
+beginning_ways inputs outputs o x requests s P stop go = later_ways inputs outputs _ s _ P stop (λ found.
+    row (leb s.frame.counts.k o) 21 _ s _ P (λ _. stop 21) (λ a.
+    row (leb (length s.table) s.begun) 22 _ s _ P (λ _. stop 22) (λ b.
+    row (not (has_room s.made s.log)) 23 _ s _ P (λ _. stop 23) (λ c.
+    go found (leb-false (length s.table) s.begun b) (leb-true (s.made + 9) (length s.log) (not-false (has_room s.made s.log) c))))))
 
 -- ---- delivering
 
@@ -466,9 +465,9 @@ call_ways inputs outputs s P w (to_read o) =
     beginning_ways inputs outputs o (reading (first_reading (s.begun + 1) o)) (read_requests (s.begun + 1) o s.frame.counts.m) s P w.refuses
     (λ found room nine. w.begins (reading (first_reading (s.begun + 1) o)) (read_requests (s.begun + 1) o s.frame.counts.m) found room nine
     (λ g h. let z = each_length s.frame.counts.m (λ (k : ℕ). ReadRequest (s.begun + 1) k o ∷ []) (λ k. omega arith) in omega arith))
-call_ways inputs outputs s P w (to_deliver number) = when_ways inputs outputs s _ P w.refuses (λ found.
-    cond_both (eqb number 0 || ltb s.made number) (refuse 31 s) _ P (λ _. w.refuses 31) (λ a.
-    cond_both (not (has_nine s)) (refuse 32 s) _ P (λ _. w.refuses 32) (λ b.
+call_ways inputs outputs s P w (to_deliver number) = later_ways inputs outputs _ s _ P w.refuses (λ found.
+    row (eqb number 0 || ltb s.made number) 31 _ s _ P (λ _. w.refuses 31) (λ a.
+    row (not (has_room s.made s.log)) 32 _ s _ P (λ _. w.refuses 32) (λ b.
     cond_both (in_range (message_at s number) s) (receives inputs outputs (message_at s number) s) (refuse 33 s) P
-    (receives_ways inputs outputs s P found.n (w.delivers found (leb-true (s.made + 9) (length s.log) (not-false (has_nine s) b))) (message_at s number))
+    (receives_ways inputs outputs s P found.n (w.delivers found (leb-true (s.made + 9) (length s.log) (not-false (has_room s.made s.log) b))) (message_at s number))
     (λ _. w.refuses 33))))

@@ -1,22 +1,24 @@
 -- Each of the calls on an open field: it refuses and leaves the state as it was, or it is accepted.
-use Rattle.std.proofs.Common.{◌≡◌, ℕ, zero, suc, ◌+◌, ◌-◌, ◌*◌, ◌<◌, ◌≤◌, Bool, true, false, cond, not, ◌&&◌, ◌||◌, eqb, ltb, leb, ◌⊎◌, List, [], ◌∷◌, length, get_or, take, drop, sym, refl, ap, ◌∙◌, subst, inl, inr, add-zero, arith, length-set}
+use Rattle.std.proofs.Common.{◌≡◌, ℕ, Option, zero, suc, ◌+◌, ◌-◌, ◌*◌, ◌<◌, ◌≤◌, Bool, true, false, cond, not, ◌&&◌, ◌||◌, eqb, ltb, leb, ◌⊎◌, List, [], ◌∷◌, length, get_or, take, drop, sym, refl, ap, ◌∙◌, subst, inl, inr, add-zero, arith, length-set}
 use mathlib.Core.Path.{fun_ext}
 use lib.Seq.{length-sets}
 use Rattle.std.proofs.lemmas.Bool.{cases_eq, cases_lt, cond_both, cond-true, and_parts, or_parts, leb-true, leb-false, ltb-false, eqb-true, eqb-false, not-false, lt-ltb, le-ltb}
 use Rattle.quorum.specs.Systems.{System}
 use Rattle.rules.specs.declared.message.Message.{Message}
 use Rattle.rules.specs.declared.message.Message.TheVariants.{ClockQuestion, ReadRequest}
-use Rattle.rules.specs.Calls.{opening, advancing, beginning, beginning_write, beginning_read, delivering, when_open, as_opened, has_nine, inputs_stay, outputs_stay, keeps_with, keep_each, keeps_drift, later_inputs, later_outputs, advanced, enter, operation_at, is_known, in_range, receives, message_at, no_message}
+use Rattle.rules.specs.Calls.{opening, advancing, beginning, beginning_write, beginning_read, delivering, unless, later_refusal, inputs_stay, outputs_stay, keeps_with, keep_each, keeps_drift, later_inputs, later_outputs, advanced, enter, operation_at, is_known, in_range, receives, message_at, no_message}
 use Rattle.rules.specs.Input.{Input, later_input}
 use Rattle.numbers.specs.Numbers.{keeps_pair}
 use Rattle.rules.specs.Operation.{Operation, unused, asking, reading, first_asking, first_reading, clock_questions, read_requests}
 use Rattle.rules.specs.Output.{Output, later_output}
+use Rattle.rules.specs.Steps.{has_room}
 use Rattle.rules.specs.Ranges.{numbers_fit, operation_fits, has_next_clock}
 use Rattle.rules.specs.Said.{accepted, began}
 use Rattle.rules.specs.State.{Frame, State, Outcome, outcome, refuse, no_input, no_output, input_at, output_at, post}
 use Rattle.guarantee.specs.Story.{Call, to_open, to_advance, to_write, to_read, to_deliver, outcome_of}
 use Rattle.guarantee.proofs.CallEffects.{params_of, act_of, says_of, news_of, Framed, Accepted, logged, none_logged, in_sent, receives_accepted}
 use Rattle.guarantee.proofs.Kept.{Small, May}
+use Rattle.guarantee.proofs.Rows.{row, later_row, first_refuses}
 use Rattle.guarantee.proofs.Words.{at, at_same, at_miss, set_at, each_nine}
 use Rattle.guarantee.proofs.PlainState.{Params, Act, writes, reads, run, begins, plain_of, plain_path, sent_post, op_enter}
 
@@ -135,25 +137,24 @@ module _ (inputs outputs : System) (s : State) (f : Framed s) (small : Small (pa
   abbrev P : Params
   P = params_of inputs outputs s
 
-  when_open_lem : (a : Act) (x : Outcome) → Stepped P s a x → Stepped P s a (when_open inputs outputs s x)
-  when_open_lem a x h = cond_both s.frame.is_open (cond (as_opened inputs outputs s) x (refuse 9 s)) (refuse 8 s) (λ (z : Outcome). Stepped P s a z)
-      (λ _. cond_both (as_opened inputs outputs s) x (refuse 9 s) (λ (z : Outcome). Stepped P s a z) (λ _. h) (λ _. no P s a 9)) (λ _. no P s a 8)
+  later_step : (a : Act) (own : Option ℕ) (x : Outcome) → Stepped P s a (unless own s x) → Stepped P s a (unless (later_refusal inputs outputs s own) s x)
+  later_step a own x h = later_row inputs outputs own s x (λ (z : Outcome). Stepped P s a z) (no P s a) (λ _ _. h)
 
-  room : has_nine s ≡ true → s.made + 9 ≤ length s.log
+  room : has_room s.made s.log ≡ true → s.made + 9 ≤ length s.log
   room h = leb-true (s.made + 9) (length s.log) h
 
   deliver_step : (number : ℕ) → Stepped P s (act_of s (to_deliver number)) (delivering inputs outputs number s)
   unfolding delivering
-  deliver_step number = when_open_lem a _
-      (cond_both (eqb number 0 || ltb s.made number) (refuse 31 s) _ (λ (z : Outcome). Stepped P s a z) (λ _. no P s a 31)
-      (λ h1. cond_both (not (has_nine s)) (refuse 32 s) _ (λ (z : Outcome). Stepped P s a z) (λ _. no P s a 32)
+  deliver_step number = later_step a _ _
+      (row (eqb number 0 || ltb s.made number) 31 _ s _ (λ (z : Outcome). Stepped P s a z) (λ _. no P s a 31)
+      (λ h1. row (not (has_room s.made s.log)) 32 _ s _ (λ (z : Outcome). Stepped P s a z) (λ _. no P s a 32)
       (λ h2. cond_both (in_range (message_at s number) s) (receives inputs outputs (message_at s number) s) (refuse 33 s) (λ (z : Outcome). Stepped P s a z)
       (λ h3. inr (ok h1 (not-false _ h2) h3)) (λ _. no P s a 33))))
     where
       a : Act
       a = act_of s (to_deliver number)
 
-      ok : (eqb number 0 || ltb s.made number) ≡ false → has_nine s ≡ true → in_range (message_at s number) s ≡ true
+      ok : (eqb number 0 || ltb s.made number) ≡ false → has_room s.made s.log ≡ true → in_range (message_at s number) s ≡ true
           → Accepted P s a (receives inputs outputs (message_at s number) s)
       ok h1 h2 h3 =
           let p = or_parts (eqb number 0) (ltb s.made number) h1 in
@@ -169,10 +170,10 @@ module _ (inputs outputs : System) (s : State) (f : Framed s) (small : Small (pa
   begin_step : (a : Act) (o : ℕ) (y : Operation) (new : List Message) → May P a (plain_of s) → length new ≤ 9
       → run P a (plain_of s) ≡ begins y new (plain_of s) → says_of P a (plain_of s) ≡ began (s.begun + 1) → news_of P a (plain_of s) ≡ new
       → Stepped P s a (beginning inputs outputs o y new s)
-  begin_step a o y new may l r sy nw = when_open_lem a _
-      (cond_both (leb s.frame.counts.k o) (refuse 21 s) _ (λ (z : Outcome). Stepped P s a z) (λ _. no P s a 21)
-      (λ h1. cond_both (leb (length s.table) s.begun) (refuse 22 s) _ (λ (z : Outcome). Stepped P s a z) (λ _. no P s a 22)
-      (λ h2. cond_both (not (has_nine s)) (refuse 23 s) _ (λ (z : Outcome). Stepped P s a z) (λ _. no P s a 23)
+  begin_step a o y new may l r sy nw = later_step a _ _
+      (row (leb s.frame.counts.k o) 21 _ s _ (λ (z : Outcome). Stepped P s a z) (λ _. no P s a 21)
+      (λ h1. row (leb (length s.table) s.begun) 22 _ s _ (λ (z : Outcome). Stepped P s a z) (λ _. no P s a 22)
+      (λ h2. row (not (has_room s.made s.log)) 23 _ s _ (λ (z : Outcome). Stepped P s a z) (λ _. no P s a 23)
       (λ h3. inr (ok (leb-false (length s.table) s.begun h2) (room (not-false _ h3)))))))
     where
       ok : s.begun < length s.table → s.made + 9 ≤ length s.log → Accepted P s a (outcome (began (s.begun + 1)) (post new (enter y s)))
@@ -194,10 +195,10 @@ module _ (inputs outputs : System) (s : State) (f : Framed s) (small : Small (pa
 
   advance_step : (xs : List ℕ) → Stepped P s (act_of s (to_advance xs)) (advancing inputs outputs xs s)
   unfolding advancing
-  advance_step xs = when_open_lem a _
-      (cond_both (not (eqb (length xs) (s.frame.counts.n + s.frame.counts.m))) (refuse 11 s) _ (λ (z : Outcome). Stepped P s a z) (λ _. no P s a 11)
-      (λ h1. cond_both (not (inputs_stay xs s.frame.counts.n s && outputs_stay xs s.frame.counts.m s)) (refuse 12 s) _ (λ (z : Outcome). Stepped P s a z) (λ _. no P s a 12)
-      (λ h2. cond_both (not (keeps_drift s.frame.drift xs)) (refuse 13 s) _ (λ (z : Outcome). Stepped P s a z) (λ _. no P s a 13)
+  advance_step xs = later_step a _ _
+      (row (not (eqb (length xs) (s.frame.counts.n + s.frame.counts.m))) 11 _ s _ (λ (z : Outcome). Stepped P s a z) (λ _. no P s a 11)
+      (λ h1. row (not (inputs_stay xs s.frame.counts.n s && outputs_stay xs s.frame.counts.m s)) 12 _ s _ (λ (z : Outcome). Stepped P s a z) (λ _. no P s a 12)
+      (λ h2. row (not (keeps_drift s.frame.drift xs)) 13 _ s _ (λ (z : Outcome). Stepped P s a z) (λ _. no P s a 13)
       (λ h3. inr (ok (eqb-true (length xs) (s.frame.counts.n + s.frame.counts.m) (not-false _ h1)) (not-false _ h3))))))
     where
       a : Act
@@ -244,7 +245,7 @@ module _ (inputs outputs : System) (s : State) (f : Framed s) (small : Small (pa
   pub call_step : s.frame.is_open ≡ true → (c : Call) → Stepped P s (act_of s c) (outcome_of inputs outputs c s)
   unfolding outcome_of opening beginning_write beginning_read
   call_step h (to_open k lease drift clocks) =
-      subst (λ (z : Outcome). Stepped P s (act_of s (to_open k lease drift clocks)) z) (sym (cond-true s.frame.is_open (refuse 1 s) _ h)) (no P s (act_of s (to_open k lease drift clocks)) 1)
+      subst (λ (z : Outcome). Stepped P s (act_of s (to_open k lease drift clocks)) z) (sym (first_refuses s.frame.is_open 1 _ s _ h)) (no P s (act_of s (to_open k lease drift clocks)) 1)
   call_step h (to_advance xs) = advance_step xs
   call_step h (to_write o x) = begin_step (writes o x) o (asking (first_asking (s.begun + 1) o x)) (clock_questions (s.begun + 1) s.frame.counts.n) tt
       (each_nine s.frame.counts.n (λ i. ClockQuestion (s.begun + 1) i) small.n_most) refl refl refl

@@ -16,6 +16,7 @@ use Rattle.guarantee.proofs.CallEffects.{params_of, act_of, Accepted}
 use Rattle.guarantee.proofs.CallSteps.{Refuses}
 use Rattle.guarantee.proofs.Completes.{heard_by, both, no_refusal, nobody, written, answered, nobody_writes, nobody_reads, more, asked_write, asked_read, WritePlace, written_next, write_next, write_said, names_from, names_more, ReadPlace, answered_next, read_next, read_said, answers_from, answers_more}
 use Rattle.guarantee.proofs.Kept.{Begun, May}
+use Rattle.guarantee.proofs.Rows.{not_open}
 use Rattle.guarantee.proofs.Stories.{Live, Known, fine, happens, live_next, stayed, traced_next, accepted_at, start, begun_grow, once, OpTraced, MsgTraced, end_of_write, end_of_read}
 use Rattle.guarantee.proofs.Words.{at, at_hit, all_at}
 use Rattle.guarantee.proofs.PlainState.{Params, PlainState, Act, hears, run, plain_of}
@@ -85,7 +86,7 @@ module _ (S : Story) (il : Lawful S.inputs) (ol : Lawful S.outputs) (closed : S.
       go (to_write o x) = cond_both _ None None (λ (m : Option Message). m ≡ None) (λ _. refl) (λ _. refl)
       go (to_read o) = cond_both _ None None (λ (m : Option Message). m ≡ None) (λ _. refl) (λ _. refl)
       go (to_deliver number) = ap (λ (x : Outcome). cond (is_refusal x.said) None (Some (message_at (before S t) number)))
-          (cond-false (before S t).frame.is_open _ (refuse 8 (before S t)) e)
+          (not_open S.inputs S.outputs _ (before S t) _ e)
 
   message_heard : (s : State) (c : Call) → message_of c s ≡ heard_by (act_of s c)
   message_heard s (to_open k lease drift clocks) = refl

@@ -2,6 +2,7 @@ pub mod Words
 pub mod Channel
 pub mod Fence
 pub mod ChannelOf
+pub mod Rows
 pub mod Sets
 pub mod InputMoves
 pub mod OutputMoves

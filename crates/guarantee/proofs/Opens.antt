@@ -26,6 +26,7 @@ use Rattle.guarantee.proofs.ChannelOf.{channel_of, InputShape, OutputShape}
 use Rattle.guarantee.proofs.RangeFacts.{within_range}
 use Rattle.guarantee.proofs.Kept.{slow, Small, Kept}
 use Rattle.guarantee.proofs.Channel.{Inv}
+use Rattle.guarantee.proofs.Rows.{row, not_open}
 use Rattle.guarantee.proofs.Words.{each_at, each_long}
 use Rattle.guarantee.proofs.PlainState.{Params, PlainState, plain_of, op_of, plain_path}
 
@@ -198,16 +199,16 @@ module _ (inputs outputs : System) (in_lawful : Lawful inputs) (out_lawful : Law
   pub closed_step : s.frame.is_open ≡ false → (c : Call) → OpenStep (outcome_of inputs outputs c s)
   unfolding outcome_of opening advancing beginning_write beginning_read delivering
   closed_step e (to_open k lease drift clocks) =
-      cond_both s.frame.is_open (refuse 1 s) _ OpenStep (λ _. inl (1, refl))
-      (λ _. cond_both (ltb 8 inputs.count || ltb 8 outputs.count) (refuse 2 s) _ OpenStep (λ _. inl (2, refl))
-      (λ h2. cond_both (not (between 1 16 k)) (refuse 3 s) _ OpenStep (λ _. inl (3, refl))
-      (λ h3. cond_both (not (between 1 longest lease)) (refuse 4 s) _ OpenStep (λ _. inl (4, refl))
-      (λ _. cond_both (ltb 999 drift) (refuse 5 s) _ OpenStep (λ _. inl (5, refl))
-      (λ _. cond_both (not (eqb (length clocks) (inputs.count + outputs.count) && clocks_fit clocks)) (refuse 6 s) _ OpenStep (λ _. inl (6, refl))
-      (λ _. cond_both (not (between 9 65535 (length s.log) && between 1 1024 (length s.table))) (refuse 7 s) _ OpenStep (λ _. inl (7, refl))
+      row s.frame.is_open 1 _ s _ OpenStep (λ _. inl (1, refl))
+      (λ _. row (ltb 8 inputs.count || ltb 8 outputs.count) 2 _ s _ OpenStep (λ _. inl (2, refl))
+      (λ h2. row (not (between 1 16 k)) 3 _ s _ OpenStep (λ _. inl (3, refl))
+      (λ h3. row (not (between 1 longest lease)) 4 _ s _ OpenStep (λ _. inl (4, refl))
+      (λ _. row (ltb 999 drift) 5 _ s _ OpenStep (λ _. inl (5, refl))
+      (λ _. row (not (eqb (length clocks) (inputs.count + outputs.count) && clocks_fit clocks)) 6 _ s _ OpenStep (λ _. inl (6, refl))
+      (λ _. row (not (between 9 65535 (length s.log) && between 1 1024 (length s.table))) 7 _ s _ OpenStep (λ _. inl (7, refl))
       (λ _. let p = or_parts (ltb 8 inputs.count) (ltb 8 outputs.count) h2 in
       inr (open_accepted k lease drift clocks (ltb-false 8 inputs.count p.0) (ltb-false 8 outputs.count p.1) (within_range 1 16 k (not-false _ h3)).1))))))))
-  closed_step e (to_advance xs) = inl (8, cond-false s.frame.is_open _ (refuse 8 s) e)
-  closed_step e (to_write o x) = inl (8, cond-false s.frame.is_open _ (refuse 8 s) e)
-  closed_step e (to_read o) = inl (8, cond-false s.frame.is_open _ (refuse 8 s) e)
-  closed_step e (to_deliver number) = inl (8, cond-false s.frame.is_open _ (refuse 8 s) e)
+  closed_step e (to_advance xs) = inl (8, not_open inputs outputs _ s _ e)
+  closed_step e (to_write o x) = inl (8, not_open inputs outputs _ s _ e)
+  closed_step e (to_read o) = inl (8, not_open inputs outputs _ s _ e)
+  closed_step e (to_deliver number) = inl (8, not_open inputs outputs _ s _ e)

@@ -1,10 +1,15 @@
 -- What an answer of a call says. Every promise about an answer goes by these.
-use Rattle.std.specs.Prelude.{ℕ, Ok, Err, Result}
+use Rattle.std.specs.Prelude.{ℕ, Some, None, Option, Ok, Err, Result}
 use Rattle.quorum.specs.declared.refusal.Refusal.{Refusal}
 use Rattle.quorum.specs.Refusals.{number_of}
 use Rattle.rules.specs.declared.delivery.Delivery.{Delivery}
 use Rattle.rules.specs.declared.delivery.Delivery.TheVariants.{NothingEnded, WriteEnded, ReadEnded}
 use Rattle.rules.specs.Said.{Said, refused, accepted, began, nothing_ended, write_ended, read_ended}
+
+-- what the tests of a call say: the number of the first refusal, if there is one
+abbrev pub refusal_said : Result (Unit {0}) Refusal → Option ℕ
+refusal_said (Ok u) = None
+refusal_said (Err e) = Some (number_of e)
 
 -- an opening or an advance
 abbrev pub acceptance : Result (Unit {0}) Refusal → Said

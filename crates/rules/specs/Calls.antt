@@ -1,5 +1,5 @@
 -- The four calls: what each says, and the field, log and table that it leaves.
-use Rattle.std.specs.Prelude.{ℕ, zero, suc, ◌+◌, ◌-◌, Bool, true, if◌then◌else◌, not, ◌&&◌, ◌||◌, List, [], ◌∷◌, length, ◌==◌, nat_le, nat_lt, slice_index, slice_index_or, slice_set}
+use Rattle.std.specs.Prelude.{ℕ, zero, suc, ◌+◌, ◌-◌, Bool, true, if◌then◌else◌, not, ◌&&◌, ◌||◌, List, [], ◌∷◌, length, Some, None, Option, ◌==◌, nat_le, nat_lt, slice_index, slice_index_or, slice_set}
 use Rattle.std.specs.List.{list_all}
 use Rattle.quorum.specs.Sets.{all_below}
 use Rattle.quorum.specs.Systems.{System}
@@ -8,13 +8,19 @@ use Rattle.rules.specs.declared.message.Message.TheVariants.{ClockQuestion, Cloc
 use Rattle.numbers.specs.declared.time.Time.{Time}
 use Rattle.rules.specs.Input.{answers_clock, after_write, answers_write, after_renewal, answers_renewal, acknowledges_all, first_input, later_input}
 use Rattle.rules.specs.Lists.{list_of, each}
-use Rattle.numbers.specs.Numbers.{between, keeps_pair, last_time, longest}
+use Rattle.numbers.specs.Numbers.{between, highest_drift, keeps_pair, last_operation, last_time, longest}
 use Rattle.rules.specs.Operation.{Operation, unused, asking, reading, first_asking, first_reading, clock_questions, read_requests}
 use Rattle.rules.specs.Output.{answers_read, after_answer, acknowledgement, after_invalidation, answers_invalidation, first_output, later_output}
 use Rattle.rules.specs.Ranges.{numbers_fit, operation_fits, state_fits, has_next_clock}
 use Rattle.rules.specs.Reaction.{Reaction, reacts}
 use Rattle.rules.specs.Said.{accepted, began, nothing_ended}
 use Rattle.rules.specs.State.{State, Outcome, outcome, refuse, input_at, output_at, post, with_input, with_output}
+use Rattle.rules.specs.Steps.{has_room}
+
+-- a call refuses by the first number of its row whose condition holds, and does what it is for where none does
+abbrev pub unless : Option ℕ → State → Outcome → Outcome
+unless None s x = x
+unless (Some number) s x = refuse number s
 
 -- ---- opening
 
@@ -44,16 +50,22 @@ opened n m k lease drift clocks s = record {
 abbrev pub clocks_fit : List Time → Bool
 clocks_fit ts = list_all (λ t. nat_le t.0 last_time) ts
 
+-- what an opening refuses first, of systems with n and m members and of a log and a table of these lengths
+abbrev pub opening_refusal : Bool → ℕ → ℕ → ℕ → ℕ → ℕ → List Time → ℕ → ℕ → Option ℕ
+opening_refusal is_open n m k lease drift clocks log_length table_length =
+    if is_open then Some 1
+    else if nat_lt 8 n || nat_lt 8 m then Some 2
+    else if not (between 1 16 k) then Some 3
+    else if not (between 1 longest lease) then Some 4
+    else if nat_lt highest_drift drift then Some 5
+    else if not (length clocks == n + m && clocks_fit clocks) then Some 6
+    else if not (between 9 65535 log_length && between 1 last_operation table_length) then Some 7
+    else None
+
 unfoldable pub opening : System → System → ℕ → ℕ → ℕ → List Time → State → Outcome
 opening inputs outputs k lease drift clocks s =
-    if s.frame.is_open then refuse 1 s
-    else if nat_lt 8 inputs.count || nat_lt 8 outputs.count then refuse 2 s
-    else if not (between 1 16 k) then refuse 3 s
-    else if not (between 1 longest lease) then refuse 4 s
-    else if nat_lt 999 drift then refuse 5 s
-    else if not (length clocks == inputs.count + outputs.count && clocks_fit clocks) then refuse 6 s
-    else if not (between 9 65535 (length s.log) && between 1 1024 (length s.table)) then refuse 7 s
-    else outcome accepted (opened inputs.count outputs.count k lease drift clocks s)
+    unless (opening_refusal s.frame.is_open inputs.count outputs.count k lease drift clocks (length s.log) (length s.table)) s
+    (outcome accepted (opened inputs.count outputs.count k lease drift clocks s))
 
 -- ---- what every later call asks first
 
@@ -65,14 +77,12 @@ as_opened inputs outputs s =
     && (inputs.count == s.frame.counts.n
     && outputs.count == s.frame.counts.m))
 
-abbrev pub when_open : System → System → State → Outcome → Outcome
-when_open inputs outputs s x =
-    if s.frame.is_open then if as_opened inputs outputs s then x else refuse 9 s
-    else refuse 8 s
-
--- nine messages can be made
-abbrev pub has_nine : State → Bool
-has_nine s = nat_le (s.made + 9) (length s.log)
+-- what it refuses before anything of its own
+abbrev pub later_refusal : System → System → State → Option ℕ → Option ℕ
+later_refusal inputs outputs s own =
+    if not s.frame.is_open then Some 8
+    else if not (as_opened inputs outputs s) then Some 9
+    else own
 
 -- ---- advancing
 
@@ -109,12 +119,16 @@ abbrev pub advanced : List ℕ → State → State
 advanced increments s =
     later_outputs increments s.frame.counts.n s.frame.counts.m (later_inputs increments s.frame.counts.n s)
 
+abbrev pub advancing_refusal : System → System → List ℕ → State → Option ℕ
+advancing_refusal inputs outputs increments s = later_refusal inputs outputs s
+    (if not (length increments == s.frame.counts.n + s.frame.counts.m) then Some 11
+    else if not (inputs_stay increments s.frame.counts.n s && outputs_stay increments s.frame.counts.m s) then Some 12
+    else if not (keeps_drift s.frame.drift increments) then Some 13
+    else None)
+
 unfoldable pub advancing : System → System → List ℕ → State → Outcome
-advancing inputs outputs increments s = when_open inputs outputs s
-    (if not (length increments == s.frame.counts.n + s.frame.counts.m) then refuse 11 s
-    else if not (inputs_stay increments s.frame.counts.n s && outputs_stay increments s.frame.counts.m s) then refuse 12 s
-    else if not (keeps_drift s.frame.drift increments) then refuse 13 s
-    else outcome accepted (advanced increments s))
+advancing inputs outputs increments s =
+    unless (advancing_refusal inputs outputs increments s) s (outcome accepted (advanced increments s))
 
 -- ---- beginning
 
@@ -122,12 +136,17 @@ advancing inputs outputs increments s = when_open inputs outputs s
 abbrev pub enter : Operation → State → State
 enter x s = record s { begun = s.begun + 1; table = slice_set s.table s.begun x }
 
+-- with the object o
+abbrev pub beginning_refusal : System → System → ℕ → State → Option ℕ
+beginning_refusal inputs outputs o s = later_refusal inputs outputs s
+    (if nat_le s.frame.counts.k o then Some 21
+    else if nat_le (length s.table) s.begun then Some 22
+    else if not (has_room s.made s.log) then Some 23
+    else None)
+
 abbrev pub beginning : System → System → ℕ → Operation → List Message → State → Outcome
-beginning inputs outputs o x requests s = when_open inputs outputs s
-    (if nat_le s.frame.counts.k o then refuse 21 s
-    else if nat_le (length s.table) s.begun then refuse 22 s
-    else if not (has_nine s) then refuse 23 s
-    else outcome (began (s.begun + 1)) (post requests (enter x s)))
+beginning inputs outputs o x requests s =
+    unless (beginning_refusal inputs outputs o s) s (outcome (began (s.begun + 1)) (post requests (enter x s)))
 
 unfoldable pub beginning_write : System → System → ℕ → ℕ → State → Outcome
 beginning_write inputs outputs o x s =
@@ -197,8 +216,13 @@ no_message = ClockQuestion 0 0
 abbrev pub message_at : State → ℕ → Message
 message_at s number = slice_index_or s.log (number - 1) no_message
 
+-- before it looks at the message
+abbrev pub delivering_refusal : System → System → ℕ → State → Option ℕ
+delivering_refusal inputs outputs number s = later_refusal inputs outputs s
+    (if number == 0 || nat_lt s.made number then Some 31
+    else if not (has_room s.made s.log) then Some 32
+    else None)
+
 unfoldable pub delivering : System → System → ℕ → State → Outcome
-delivering inputs outputs number s = when_open inputs outputs s
-    (if number == 0 || nat_lt s.made number then refuse 31 s
-    else if not (has_nine s) then refuse 32 s
-    else hands_over inputs outputs (message_at s number) s)
+delivering inputs outputs number s =
+    unless (delivering_refusal inputs outputs number s) s (hands_over inputs outputs (message_at s number) s)
