@@ -1,21 +1,19 @@
 -- Advancing: what its tests say, and what it leaves.
-use Rattle.std.proofs.Common.{◌≡◌, ℕ, zero, suc, ◌+◌, ◌<◌, ◌≤◌, Bool, true, false, cond, not, ◌&&◌, eqb, leb, List, length, take, drop, get_or, sym, refl, ap, ◌∙◌, arith}
+use Rattle.std.proofs.Common.{◌≡◌, ℕ, zero, suc, ◌+◌, ◌<◌, ◌≤◌, Bool, true, false, cond, not, ◌&&◌, eqb, leb, List, length, take, drop, get_or, Some, None, sym, refl, ap, ◌∙◌, arith}
 use Rattle.std.proofs.lemmas.List.{get_or-take, get_or-drop, length-take-le, length-drop}
-use Rattle.std.proofs.lemmas.Bool.{not-false, eqb-true}
+use Rattle.std.proofs.lemmas.Bool.{and_parts, not-false, eqb-true}
 use Rattle.quorum.specs.declared.refusal.Refusal.{Refusal}
 use Rattle.quorum.specs.Refusals.{number_of}
 use Rattle.quorum.specs.Sets.{all_below}
 use Rattle.quorum.specs.Systems.{System}
 use Rattle.numbers.specs.Numbers.{last_time}
-use Rattle.rules.specs.Calls.{inputs_stay, outputs_stay, keeps_drift, later_inputs, later_outputs, advanced, advancing}
+use Rattle.rules.specs.Calls.{inputs_stay, outputs_stay, advancing_refusal, later_inputs, later_outputs, advanced, advancing}
 use Rattle.rules.specs.Input.{Input, later_input}
 use Rattle.rules.specs.Output.{Output, later_output}
 use Rattle.rules.specs.Said.{accepted}
 use Rattle.rules.specs.State.{State, Outcome, outcome, refuse, no_input, no_output, input_at, output_at, with_input, with_output}
-use Rattle.field.specs.Checked.{advance_check}
 use Rattle.field.specs.Servers.{all_stay, all_later}
-use Rattle.field.proofs.Calling.{later_tests, later_passed}
-use Rattle.field.proofs.Refusing.{decide, refuses_first, passes_first, call_refuses, call_passes}
+use Rattle.field.proofs.Refusing.{passes, later_passes, call_refuses, call_passes}
 
 -- ---- the clocks that would move
 
@@ -94,43 +92,24 @@ module _ (xs front back : List ℕ) (s : State) (h : length xs ≡ s.frame.count
 
 -- ---- the call
 
-abbrev moved : System → System → List ℕ → State → Outcome
-moved i o xs s =
-    cond (not (inputs_stay xs s.frame.counts.n s && outputs_stay xs s.frame.counts.m s)) (refuse 12 s)
-    (cond (not (keeps_drift s.frame.drift xs)) (refuse 13 s) (outcome accepted (advanced xs s)))
-
-advancing_is : (i o : System) (xs : List ℕ) (s : State) → advancing i o xs s ≡ decide (advance_check i o (length xs) s) (moved i o xs s) s
+pub advance_refuses : (i o : System) (xs : List ℕ) (s : State) (e : Refusal) → Some (number_of e) ≡ advancing_refusal i o xs s → advancing i o xs s ≡ refuse (number_of e) s
 unfolding advancing
-advancing_is i o xs s =
-    later_tests i o s _ _ (moved i o xs s)
-    (refuses_first (not (eqb (length xs) (s.frame.counts.n + s.frame.counts.m))) 10 0 (moved i o xs s) (moved i o xs s) s refl)
+advance_refuses i o xs s e r = call_refuses e _ _ s r
 
-pub advance_refuses : (i o : System) (xs : List ℕ) (s : State) (e : Refusal) → number_of e ≡ advance_check i o (length xs) s → advancing i o xs s ≡ refuse (number_of e) s
-advance_refuses i o xs s e r = call_refuses e _ _ (moved i o xs s) s (advancing_is i o xs s) r
+-- what is known where they pass
+pub record Moves (xs : List ℕ) (s : State) : Type 0 where
+  pub counted : length xs ≡ s.frame.counts.n + s.frame.counts.m
+  pub inputs : inputs_stay xs s.frame.counts.n s ≡ true
+  pub outputs : outputs_stay xs s.frame.counts.m s ≡ true
 
-pub advance_counted : (i o : System) (xs : List ℕ) (s : State) → 0 ≡ advance_check i o (length xs) s → length xs ≡ s.frame.counts.n + s.frame.counts.m
-advance_counted i o xs s r =
-    let p = later_passed i o s _ (sym r) in
-    let q = passes_first (not (eqb (length xs) (s.frame.counts.n + s.frame.counts.m))) 10 0 p.2 in
-    eqb-true (length xs) (s.frame.counts.n + s.frame.counts.m) (not-false _ q.0)
+pub moves_of : (i o : System) (xs : List ℕ) (s : State) → None ≡ advancing_refusal i o xs s → Moves xs s
+moves_of i o xs s r =
+    let p = later_passes i o s _ (sym r) in
+    let q = passes (not (eqb (length xs) (s.frame.counts.n + s.frame.counts.m))) 11 _ p.2 in
+    let t = passes (not (inputs_stay xs s.frame.counts.n s && outputs_stay xs s.frame.counts.m s)) 12 _ q.1 in
+    let u = and_parts (inputs_stay xs s.frame.counts.n s) (outputs_stay xs s.frame.counts.m s) (not-false _ t.0) in
+    record { counted = eqb-true (length xs) (s.frame.counts.n + s.frame.counts.m) (not-false _ q.0); inputs = u.0; outputs = u.1 }
 
-module _ (i o : System) (xs : List ℕ) (s : State) (r : 0 ≡ advance_check i o (length xs) s) where
-  passed : advancing i o xs s ≡ moved i o xs s
-  passed = call_passes _ _ (moved i o xs s) s (advancing_is i o xs s) r
-
-  abbrev by_tests : Bool → Bool → Outcome
-  by_tests stay keep = cond (not stay) (refuse 12 s) (cond (not keep) (refuse 13 s) (outcome accepted (advanced xs s)))
-
-  -- a clock that would pass the last time is enough
-  pub advance_past : false ≡ (inputs_stay xs s.frame.counts.n s && outputs_stay xs s.frame.counts.m s) → advancing i o xs s ≡ refuse 12 s
-  advance_past p = passed ∙ sym (ap (λ (x : Bool). by_tests x (keeps_drift s.frame.drift xs)) p)
-
-  pub advance_drifts : true ≡ (inputs_stay xs s.frame.counts.n s && outputs_stay xs s.frame.counts.m s) → false ≡ keeps_drift s.frame.drift xs
-      → advancing i o xs s ≡ refuse 13 s
-  advance_drifts p f = passed ∙ sym (ap (λ (x : Bool). by_tests x (keeps_drift s.frame.drift xs)) p) ∙ sym (ap (λ (x : Bool). by_tests true x) f)
-
-  pub advance_done : (t : State) → true ≡ (inputs_stay xs s.frame.counts.n s && outputs_stay xs s.frame.counts.m s) → true ≡ keeps_drift s.frame.drift xs
-      → t ≡ advanced xs s → advancing i o xs s ≡ outcome accepted t
-  advance_done t p f e =
-      passed ∙ sym (ap (λ (x : Bool). by_tests x (keeps_drift s.frame.drift xs)) p) ∙ sym (ap (λ (x : Bool). by_tests true x) f)
-      ∙ ap (outcome accepted) (sym e)
+pub advance_done : (i o : System) (xs : List ℕ) (s t : State) → None ≡ advancing_refusal i o xs s → t ≡ advanced xs s → advancing i o xs s ≡ outcome accepted t
+unfolding advancing
+advance_done i o xs s t r e = call_passes _ _ s r ∙ ap (outcome accepted) (sym e)

@@ -1,21 +1,21 @@
 -- The calls of an open field: what their tests say of the rules' own calls, and what is known where the tests pass.
-use Rattle.std.proofs.Common.{◌≡◌, ℕ, ◌+◌, ◌≤◌, Bool, true, false, cond, not, ◌||◌, eqb, ltb, List, map, length, Some, sym, refl, ap, ◌∙◌, arith}
+use Rattle.std.proofs.Common.{◌≡◌, ℕ, ◌+◌, ◌≤◌, Bool, true, false, cond, not, ◌||◌, eqb, ltb, List, map, length, Some, None, sym, refl, ap, ◌∙◌, arith}
 use Rattle.std.proofs.lemmas.List.{length-map}
 use Rattle.std.proofs.lemmas.Bool.{and_parts, or_parts, not-false, eqb-true, eqb-false, ltb-false, leb-true}
 use Rattle.quorum.specs.declared.refusal.Refusal.{Refusal}
 use Rattle.quorum.specs.Refusals.{number_of}
 use Rattle.quorum.specs.Systems.{System}
 use Rattle.rules.specs.declared.message.Message.{Message}
-use Rattle.rules.specs.Calls.{as_opened, when_open, has_nine, message_at, hands_over, delivering}
+use Rattle.rules.specs.Calls.{as_opened, message_at, hands_over, delivering, delivering_refusal}
+use Rattle.rules.specs.Steps.{has_room}
 use Rattle.rules.specs.State.{State, Outcome, refuse}
 use Rattle.operation.specs.declared.table.Operation.{Operation}
 use Rattle.operation.specs.States.{operation_of}
 use Rattle.field.specs.declared.open_field.OpenField.{OpenField}
-use Rattle.field.specs.Checked.{later_refusal, delivery_check}
 use Rattle.field.specs.Delivered.{Deliverable}
 use Rattle.field.specs.Sound.{Sound}
 use Rattle.field.specs.Views.{state_of}
-use Rattle.field.proofs.Refusing.{decide, refuses_first, refuses_else, passes_first, passes_else, call_refuses, call_passes}
+use Rattle.field.proofs.Refusing.{passes, later_passes, call_refuses, call_passes}
 use Rattle.field.proofs.Sounds.{Numbers, numbers_of, ready_of}
 
 -- ---- what is lent
@@ -40,33 +40,17 @@ lent_of i o f log table b =
       outputs_as = eqb-true o.count f.counts.outputs.number r.1;
     }
 
-pub later_tests : (i o : System) (s : State) (rest : ℕ) (y Y : Outcome) → y ≡ decide rest Y s
-    → when_open i o s y ≡ decide (later_refusal s.frame.is_open (as_opened i o s) rest) Y s
-later_tests i o s rest y Y e = refuses_else s.frame.is_open 7 _ _ Y s (refuses_else (as_opened i o s) 8 rest y Y s e)
-
-pub later_passed : (i o : System) (s : State) (rest : ℕ) → later_refusal s.frame.is_open (as_opened i o s) rest ≡ 0
-    → (s.frame.is_open ≡ true) × (as_opened i o s ≡ true) × (rest ≡ 0)
-later_passed i o s rest e =
-    let p = passes_else s.frame.is_open 7 _ e in
-    let q = passes_else (as_opened i o s) 8 rest p.1 in
-    (p.0, q.0, q.1)
-
 -- ---- delivering
 
-delivering_is : (i o : System) (number : ℕ) (s : State) → delivering i o number s ≡ decide (delivery_check i o number s) (hands_over i o (message_at s number) s) s
-unfolding delivering
-delivering_is i o number s =
-    later_tests i o s _ _ (hands_over i o (message_at s number) s)
-    (refuses_first (eqb number 0 || ltb s.made number) 30 _ _ (hands_over i o (message_at s number) s) s
-    (refuses_first (not (has_nine s)) 31 0 (hands_over i o (message_at s number) s) (hands_over i o (message_at s number) s) s refl))
-
-pub delivery_refuses : (i o : System) (number : ℕ) (s : State) (e : Refusal) → number_of e ≡ delivery_check i o number s
+pub delivery_refuses : (i o : System) (number : ℕ) (s : State) (e : Refusal) → Some (number_of e) ≡ delivering_refusal i o number s
     → delivering i o number s ≡ refuse (number_of e) s
-delivery_refuses i o number s e r = call_refuses e _ _ (hands_over i o (message_at s number) s) s (delivering_is i o number s) r
+unfolding delivering
+delivery_refuses i o number s e r = call_refuses e _ (hands_over i o (message_at s number) s) s r
 
-pub delivery_done : (i o : System) (number : ℕ) (s : State) (x : Outcome) → 0 ≡ delivery_check i o number s
+pub delivery_done : (i o : System) (number : ℕ) (s : State) (x : Outcome) → None ≡ delivering_refusal i o number s
     → hands_over i o (message_at s number) s ≡ x → delivering i o number s ≡ x
-delivery_done i o number s x r e = call_passes _ _ (hands_over i o (message_at s number) s) s (delivering_is i o number s) r ∙ e
+unfolding delivering
+delivery_done i o number s x r e = call_passes _ (hands_over i o (message_at s number) s) s r ∙ e
 
 -- what is known then
 pub record Passed (i o : System) (f : OpenField) (log : List Message) (table : List Operation) (number : ℕ) : Type 0 where
@@ -77,12 +61,12 @@ pub record Passed (i o : System) (f : OpenField) (log : List Message) (table : L
   pub room : f.made + 9 ≤ length log
 
 pub delivery_passed : (i o : System) (f : OpenField) (log : List Message) (table : List Operation) (number : ℕ) → Sound (Some f)
-    → 0 ≡ delivery_check i o number (state_of f log table) → Passed i o f log table number
+    → None ≡ delivering_refusal i o number (state_of f log table) → Passed i o f log table number
 delivery_passed i o f log table number sound r =
     let s = state_of f log table in
-    let p = later_passed i o s _ (sym r) in
-    let q = passes_first (eqb number 0 || ltb f.made number) 30 _ p.2 in
-    let t = passes_first (not (has_nine s)) 31 0 q.1 in
+    let p = later_passes i o s _ (sym r) in
+    let q = passes (eqb number 0 || ltb f.made number) 31 _ p.2 in
+    let t = passes (not (has_room s.made s.log)) 32 None q.1 in
     let u = or_parts (eqb number 0) (ltb f.made number) q.0 in
     let some : number ≡ 0 → ⊥ = eqb-false number 0 u.0 in
     record {
@@ -90,7 +74,7 @@ delivery_passed i o f log table number sound r =
       numbers = numbers_of f sound;
       low = grind arith;
       made = ltb-false f.made number u.1;
-      room = leb-true (f.made + 9) (length log) (not-false (has_nine s) t.0);
+      room = leb-true (f.made + 9) (length log) (not-false (has_room s.made s.log) t.0);
     }
 
 pub begun_in_table : (i o : System) (f : OpenField) (log : List Message) (table : List Operation) (number : ℕ) → Passed i o f log table number → f.begun ≤ length table

@@ -7,7 +7,7 @@ use Rattle.quorum.specs.Refusals.{number_of}
 use Rattle.quorum.specs.Systems.{System}
 use Rattle.numbers.specs.declared.time.Time.{Time}
 use Rattle.numbers.specs.Numbers.{between, last_time, longest}
-use Rattle.rules.specs.Calls.{start_clock, opened, clocks_fit, opening}
+use Rattle.rules.specs.Calls.{unless, start_clock, opened, clocks_fit, opening, opening_refusal}
 use Rattle.rules.specs.Input.{first_input}
 use Rattle.rules.specs.Lists.{each}
 use Rattle.rules.specs.Output.{first_output}
@@ -21,34 +21,19 @@ use Rattle.field.specs.declared.open_field.OpenField.{OpenField}
 use Rattle.field.specs.Opened.{OpeningFits, opened_frame}
 use Rattle.field.specs.Unopened.{unopened}
 use Rattle.field.specs.Views.{inputs_of, outputs_of, frame_of, state_of, field_of}
-use Rattle.checks.specs.Refused.{opening_refusal}
-use Rattle.field.proofs.Refusing.{decide, refuses_first, passes_first, call_refuses, call_passes}
+use Rattle.field.proofs.Refusing.{passes, call_refuses, call_passes}
 
 -- ---- the tests
 
-pub opening_is : (i o : System) (k lease drift : ℕ) (clocks : List Time) (s : State)
-    → opening i o k lease drift clocks s
-    ≡ decide (opening_refusal s.frame.is_open i.count o.count k lease drift clocks (length s.log) (length s.table))
-    (outcome accepted (opened i.count o.count k lease drift clocks s)) s
-unfolding opening
-opening_is i o k lease drift clocks s =
-    refuses_first s.frame.is_open 0 _ _ _ s
-    (refuses_first (ltb 8 i.count || ltb 8 o.count) 1 _ _ _ s
-    (refuses_first (not (between 1 16 k)) 2 _ _ _ s
-    (refuses_first (not (between 1 longest lease)) 3 _ _ _ s
-    (refuses_first (ltb 999 drift) 4 _ _ _ s
-    (refuses_first (not (eqb (length clocks) (i.count + o.count) && clocks_fit clocks)) 5 _ _ _ s
-    (refuses_first (not (between 9 65535 (length s.log) && between 1 1024 (length s.table))) 6 0 _ _ s refl))))))
-
 pub opening_fits : (is_open : Bool) (n m k lease drift : ℕ) (clocks : List Time) (a b : ℕ)
-    → opening_refusal is_open n m k lease drift clocks a b ≡ 0 → OpeningFits n m k lease drift clocks
+    → opening_refusal is_open n m k lease drift clocks a b ≡ None → OpeningFits n m k lease drift clocks
 opening_fits is_open n m k lease drift clocks a b e =
-    let p1 = passes_first is_open 0 _ e in
-    let p2 = passes_first (ltb 8 n || ltb 8 m) 1 _ p1.1 in
-    let p3 = passes_first (not (between 1 16 k)) 2 _ p2.1 in
-    let p4 = passes_first (not (between 1 longest lease)) 3 _ p3.1 in
-    let p5 = passes_first (ltb 999 drift) 4 _ p4.1 in
-    let p6 = passes_first (not (eqb (length clocks) (n + m) && clocks_fit clocks)) 5 _ p5.1 in
+    let p1 = passes is_open 1 _ e in
+    let p2 = passes (ltb 8 n || ltb 8 m) 2 _ p1.1 in
+    let p3 = passes (not (between 1 16 k)) 3 _ p2.1 in
+    let p4 = passes (not (between 1 longest lease)) 4 _ p3.1 in
+    let p5 = passes (ltb 999 drift) 5 _ p4.1 in
+    let p6 = passes (not (eqb (length clocks) (n + m) && clocks_fit clocks)) 6 _ p5.1 in
     let few = or_parts (ltb 8 n) (ltb 8 m) p2.0 in
     let objects = and_parts (leb 1 k) (leb k 16) (not-false _ p3.0) in
     let long = and_parts (leb 1 lease) (leb lease longest) (not-false _ p4.0) in
@@ -124,43 +109,44 @@ opened_is log table g n m k lease drift clocks fits frame zeros ins outs =
 -- its tests, over the log and the table themselves
 tests : (i o : System) (k lease drift : ℕ) (clocks : List Time) (f : Option OpenField) (log : List Message) (table : List Operation)
     → opening i o k lease drift clocks (field_of f log table)
-    ≡ decide (opening_refusal (is_some f) i.count o.count k lease drift clocks (length log) (length table))
-    (outcome accepted (opened i.count o.count k lease drift clocks (unopened log (map operation_of table)))) (field_of f log table)
+    ≡ unless (opening_refusal (is_some f) i.count o.count k lease drift clocks (length log) (length table)) (field_of f log table)
+    (outcome accepted (opened i.count o.count k lease drift clocks (unopened log (map operation_of table))))
+unfolding opening
 tests i o k lease drift clocks f log table = over f
   where
     places : (b : Bool) (Y : Outcome) (s : State)
-        → decide (opening_refusal b i.count o.count k lease drift clocks (length log) (length (map operation_of table))) Y s
-        ≡ decide (opening_refusal b i.count o.count k lease drift clocks (length log) (length table)) Y s
-    places b Y s = ap (λ (l : ℕ). decide (opening_refusal b i.count o.count k lease drift clocks (length log) l) Y s) (length-map table operation_of)
+        → unless (opening_refusal b i.count o.count k lease drift clocks (length log) (length (map operation_of table))) s Y
+        ≡ unless (opening_refusal b i.count o.count k lease drift clocks (length log) (length table)) s Y
+    places b Y s = ap (λ (l : ℕ). unless (opening_refusal b i.count o.count k lease drift clocks (length log) l) s Y) (length-map table operation_of)
 
     over : (f : Option OpenField)
         → opening i o k lease drift clocks (field_of f log table)
-        ≡ decide (opening_refusal (is_some f) i.count o.count k lease drift clocks (length log) (length table))
-        (outcome accepted (opened i.count o.count k lease drift clocks (unopened log (map operation_of table)))) (field_of f log table)
-    over None = opening_is i o k lease drift clocks (field_of None log table) ∙ places false (outcome accepted (opened i.count o.count k lease drift clocks (unopened log (map operation_of table)))) (field_of None log table)
-    over (Some f) = opening_is i o k lease drift clocks (field_of (Some f) log table) ∙ places true (outcome accepted (opened i.count o.count k lease drift clocks (unopened log (map operation_of table)))) (field_of (Some f) log table)
+        ≡ unless (opening_refusal (is_some f) i.count o.count k lease drift clocks (length log) (length table)) (field_of f log table)
+        (outcome accepted (opened i.count o.count k lease drift clocks (unopened log (map operation_of table))))
+    over None = places false (outcome accepted (opened i.count o.count k lease drift clocks (unopened log (map operation_of table)))) (field_of None log table)
+    over (Some f) = refl
 
 -- a field that is open is not opened again
 pub open_again : (i o : System) (k lease drift : ℕ) (clocks : List Time) (f : Option OpenField) (log : List Message) (table : List Operation)
     → is_some f ≡ true → opening i o k lease drift clocks (field_of f log table) ≡ refuse 1 (field_of f log table)
 open_again i o k lease drift clocks f log table e =
     tests i o k lease drift clocks f log table
-    ∙ ap (λ (b : Bool). decide (opening_refusal b i.count o.count k lease drift clocks (length log) (length table))
-    (outcome accepted (opened i.count o.count k lease drift clocks (unopened log (map operation_of table)))) (field_of f log table)) e
+    ∙ ap (λ (b : Bool). unless (opening_refusal b i.count o.count k lease drift clocks (length log) (length table)) (field_of f log table)
+    (outcome accepted (opened i.count o.count k lease drift clocks (unopened log (map operation_of table))))) e
 
 pub open_refuses : (i o : System) (k lease drift : ℕ) (clocks : List Time) (f : Option OpenField) (log : List Message) (table : List Operation) (n m : ℕ) (e : Refusal)
     → is_some f ≡ false → n ≡ i.count → m ≡ o.count
-    → number_of e ≡ opening_refusal false n m k lease drift clocks (length log) (length table)
+    → Some (number_of e) ≡ opening_refusal false n m k lease drift clocks (length log) (length table)
     → opening i o k lease drift clocks (field_of f log table) ≡ refuse (number_of e) (field_of f log table)
 open_refuses i o k lease drift clocks f log table n m e closed p q r =
     let R = λ (a b : ℕ). opening_refusal (is_some f) a b k lease drift clocks (length log) (length table) in
     let closing = sym (ap (λ (b : Bool). opening_refusal b n m k lease drift clocks (length log) (length table)) closed) in
-    call_refuses e _ _ _ (field_of f log table) (tests i o k lease drift clocks f log table)
-    (r ∙ closing ∙ ap (λ (a : ℕ). R a m) p ∙ ap (R i.count) q)
+    tests i o k lease drift clocks f log table
+    ∙ call_refuses e _ _ (field_of f log table) (r ∙ closing ∙ ap (λ (a : ℕ). R a m) p ∙ ap (R i.count) q)
 
 pub opens : (i o : System) (k lease drift : ℕ) (clocks : List Time) (f : Option OpenField) (log : List Message) (table : List Operation) (g : OpenField) (n m : ℕ)
     → is_some f ≡ false → n ≡ i.count → m ≡ o.count
-    → 0 ≡ opening_refusal false n m k lease drift clocks (length log) (length table)
+    → None ≡ opening_refusal false n m k lease drift clocks (length log) (length table)
     → frame_of g ≡ opened_frame n m k lease drift (length log) (length table)
     → (g.made ≡ 0) × (g.begun ≡ 0)
     → inputs_of g.inputs ≡ first_inputs (take n clocks) → outputs_of g.outputs ≡ first_outputs (drop n clocks)
@@ -170,7 +156,7 @@ opens i o k lease drift clocks f log table g n m closed p q r frame zeros ins ou
     let R = λ (a b : ℕ). opening_refusal (is_some f) a b k lease drift clocks (length log) (length table) in
     let closing = sym (ap (λ (b : Bool). opening_refusal b n m k lease drift clocks (length log) (length table)) closed) in
     let fits = opening_fits false n m k lease drift clocks (length log) (length table) (sym r) in
-    call_passes _ _ _ (field_of f log table) (tests i o k lease drift clocks f log table) (r ∙ closing ∙ ap (λ (a : ℕ). R a m) p ∙ ap (R i.count) q)
+    tests i o k lease drift clocks f log table ∙ call_passes _ _ (field_of f log table) (r ∙ closing ∙ ap (λ (a : ℕ). R a m) p ∙ ap (R i.count) q)
     ∙ ap (λ (a : ℕ). outcome accepted (opened a o.count k lease drift clocks s)) (sym p)
     ∙ ap (λ (b : ℕ). outcome accepted (opened n b k lease drift clocks s)) (sym q)
     ∙ opened_is log table g n m k lease drift clocks fits frame zeros ins outs

@@ -1,62 +1,31 @@
--- A row of tests, each with the number of its refusal: what it says, and what is known where all of them pass.
-use Rattle.std.proofs.Common.{◌≡◌, ℕ, zero, suc, Bool, true, false, cond, sym, refl, ap, ◌∙◌, arith}
+-- A call that refuses by its row of tests, or goes on: what is known then.
+use Rattle.std.proofs.Common.{◌≡◌, ℕ, Bool, true, false, cond, not, Some, None, Option, is_none, sym, refl, ap, ◌∙◌}
+use Rattle.std.proofs.lemmas.Bool.{false≢true, not-false}
 use Rattle.quorum.specs.declared.refusal.Refusal.{Refusal}
-use Rattle.quorum.specs.declared.refusal.Refusal.TheVariants.{AlreadyOpen, TooManyMembers, ObjectCount, LeaseLength, DriftRange, StartClocks, Lengths, NotOpen, NotAsOpened, MemberCount, IncrementCount, PastLastTime, DriftBroken, NoSuchObject, TableFull, NoRoomToBegin, NoSuchMessage, NoRoomToDeliver, OutOfRange}
 use Rattle.quorum.specs.Refusals.{number_of}
+use Rattle.quorum.specs.Systems.{System}
+use Rattle.rules.specs.Calls.{unless, as_opened, later_refusal}
 use Rattle.rules.specs.State.{State, Outcome, refuse}
 
--- the call refuses with that number, or does Y where it is 0
-abbrev pub decide : ℕ → Outcome → State → Outcome
-decide zero Y s = Y
-decide (suc k) Y s = refuse (suc k) s
+-- the first of the tests passed, and so did the others
+pub passes : (b : Bool) (k : ℕ) (rest : Option ℕ) → cond b (Some k) rest ≡ None → (b ≡ false) × (rest ≡ None)
+passes true k rest e = absurd (false≢true (ap is_none e))
+passes false k rest e = (refl, e)
 
--- one test more in front
-pub refuses_first : (b : Bool) (k rest : ℕ) (y Y : Outcome) (s : State) → y ≡ decide rest Y s → cond b (refuse (suc k) s) y ≡ decide (cond b (suc k) rest) Y s
-refuses_first true k rest y Y s e = refl
-refuses_first false k rest y Y s e = e
-
-pub passes_first : (b : Bool) (k rest : ℕ) → cond b (suc k) rest ≡ 0 → (b ≡ false) × (rest ≡ 0)
-passes_first true k rest e = absurd (omega arith)
-passes_first false k rest e = (refl, e)
-
--- the same for a test that passes where it says true
-pub refuses_else : (b : Bool) (k rest : ℕ) (y Y : Outcome) (s : State) → y ≡ decide rest Y s → cond b y (refuse (suc k) s) ≡ decide (cond b rest (suc k)) Y s
-refuses_else true k rest y Y s e = e
-refuses_else false k rest y Y s e = refl
-
-pub passes_else : (b : Bool) (k rest : ℕ) → cond b rest (suc k) ≡ 0 → (b ≡ true) × (rest ≡ 0)
-passes_else true k rest e = (refl, e)
-passes_else false k rest e = absurd (omega arith)
-
--- a refusal of the code is one of these numbers
-pub refuses_with : (e : Refusal) (Y : Outcome) (s : State) → decide (number_of e) Y s ≡ refuse (number_of e) s
-refuses_with AlreadyOpen Y s = refl
-refuses_with TooManyMembers Y s = refl
-refuses_with ObjectCount Y s = refl
-refuses_with LeaseLength Y s = refl
-refuses_with DriftRange Y s = refl
-refuses_with StartClocks Y s = refl
-refuses_with Lengths Y s = refl
-refuses_with NotOpen Y s = refl
-refuses_with NotAsOpened Y s = refl
-refuses_with MemberCount Y s = refl
-refuses_with IncrementCount Y s = refl
-refuses_with PastLastTime Y s = refl
-refuses_with DriftBroken Y s = refl
-refuses_with NoSuchObject Y s = refl
-refuses_with TableFull Y s = refl
-refuses_with NoRoomToBegin Y s = refl
-refuses_with NoSuchMessage Y s = refl
-refuses_with NoRoomToDeliver Y s = refl
-refuses_with OutOfRange Y s = refl
+pub later_passes : (i o : System) (s : State) (own : Option ℕ) → later_refusal i o s own ≡ None
+    → (s.frame.is_open ≡ true) × (as_opened i o s ≡ true) × (own ≡ None)
+later_passes i o s own e =
+    let p = passes (not s.frame.is_open) 8 _ e in
+    let q = passes (not (as_opened i o s)) 9 own p.1 in
+    (not-false _ p.0, not-false _ q.0, q.1)
 
 -- a call whose tests refuse, and one whose tests pass
-pub call_refuses : (e : Refusal) (R : ℕ) (x Y : Outcome) (s : State) → x ≡ decide R Y s → number_of e ≡ R → x ≡ refuse (number_of e) s
-call_refuses e R x Y s is r = is ∙ ap (λ (k : ℕ). decide k Y s) (sym r) ∙ refuses_with e Y s
+pub call_refuses : (e : Refusal) (r : Option ℕ) (x : Outcome) (s : State) → Some (number_of e) ≡ r → unless r s x ≡ refuse (number_of e) s
+call_refuses e r x s is = ap (λ (k : Option ℕ). unless k s x) (sym is)
 
-pub call_passes : (R : ℕ) (x Y : Outcome) (s : State) → x ≡ decide R Y s → 0 ≡ R → x ≡ Y
-call_passes R x Y s is r = is ∙ ap (λ (k : ℕ). decide k Y s) (sym r)
+pub call_passes : (r : Option ℕ) (x : Outcome) (s : State) → None ≡ r → unless r s x ≡ x
+call_passes r x s is = ap (λ (k : Option ℕ). unless k s x) (sym is)
 
 -- what is said of a refusal says nothing of an acceptance
 pub not_refused : {A : Type 0} → true ≡ false → A
-not_refused e = absurd (let z : ◌≡◌ {A = ℕ} 0 1 = cc in omega arith)
+not_refused e = absurd (false≢true (sym e))

@@ -1,4 +1,3 @@
-pub mod Checked
 pub mod Delivered
 pub mod Guaranteed
 pub mod Getters

@@ -2,11 +2,9 @@
 ghost use Rattle.std.specs.Prelude.{Some, ◌≡◌, ◌<◌, false, List, length, is_ok};
 ghost use Rattle.operation.specs.States.{operation_of};
 ghost use Rattle.rules.specs.declared.message.Message.{Message as AnyMessage};
-ghost use Rattle.rules.specs.Answers.{beginning_says};
-ghost use Rattle.rules.specs.Calls.{beginning_write, beginning_read, enter as entered};
+ghost use Rattle.rules.specs.Answers.{beginning_says, refusal_said};
+ghost use Rattle.rules.specs.Calls.{beginning_write, beginning_read, beginning_refusal, enter as entered};
 ghost use Rattle.rules.specs.State.{outcome};
-ghost use Rattle.field.specs.Checked.{beginning_check};
-ghost use Rattle.checks.specs.Refused.{refusal_said};
 ghost use Rattle.field.specs.Sound.{Sound};
 ghost use Rattle.field.specs.Views.{state_of};
 
@@ -73,7 +71,7 @@ impl OpenField {
         systems: &Systems<I, O>,
         object: u64,
     ) -> Result<(), Refusal>
-        ensures { refusal_said result ≡ beginning_check (I.QuorumSystem.meaning systems.now.inputs) (O.QuorumSystem.meaning systems.now.outputs) object (state_of self.now log.now table.now) }
+        ensures { refusal_said result ≡ beginning_refusal (I.QuorumSystem.meaning systems.now.inputs) (O.QuorumSystem.meaning systems.now.outputs) object (state_of self.now log.now table.now) }
     {
         if !self.is_as_opened(log, table, systems) {
             return Err(Refusal::NotAsOpened);

@@ -16,7 +16,7 @@ ghost use Rattle.field.specs.Views.{field_of};
 
 use crate::field::Field;
 use crate::open_field::OpenField;
-use checks::{Opening, check_opening};
+use crate::opening::{Opening, check_opening};
 use numbers::Time;
 use operation::Operation;
 use quorum::{QuorumSystem, Refusal, Systems};

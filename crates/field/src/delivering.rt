@@ -1,11 +1,9 @@
 // Delivering a message.
 ghost use Rattle.std.specs.Prelude.{Some, ◌≡◌, false, is_ok, OnErr};
-ghost use Rattle.rules.specs.Answers.{delivery_says};
-ghost use Rattle.rules.specs.Calls.{hands_over, delivering};
+ghost use Rattle.rules.specs.Answers.{delivery_says, refusal_said};
+ghost use Rattle.rules.specs.Calls.{hands_over, delivering, delivering_refusal};
 ghost use Rattle.rules.specs.State.{outcome};
-ghost use Rattle.field.specs.Checked.{delivery_check};
 ghost use Rattle.field.specs.Delivered.{numbered, Deliverable};
-ghost use Rattle.checks.specs.Refused.{refusal_said};
 ghost use Rattle.field.specs.Sound.{Sound};
 ghost use Rattle.field.specs.Views.{state_of};
 
@@ -40,7 +38,7 @@ impl OpenField {
         systems: &Systems<I, O>,
         number: usize,
     ) -> Result<(), Refusal>
-        ensures { refusal_said result ≡ delivery_check (I.QuorumSystem.meaning systems.now.inputs) (O.QuorumSystem.meaning systems.now.outputs) number (state_of self.now log.now table.now) }
+        ensures { refusal_said result ≡ delivering_refusal (I.QuorumSystem.meaning systems.now.inputs) (O.QuorumSystem.meaning systems.now.outputs) number (state_of self.now log.now table.now) }
     {
         if !self.is_as_opened(log, table, systems) {
             return Err(Refusal::NotAsOpened);

@@ -17,6 +17,6 @@ mod message_checks;
 mod to_servers;
 mod servers;
 
-pub use checks::Opening;
 pub use field::Field;
+pub use opening::Opening;
 pub use making::{blank_message, blank_operation};

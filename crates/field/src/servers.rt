@@ -10,7 +10,6 @@ ghost use Rattle.rules.specs.Output.{Output, first_output, later_output};
 ghost use Rattle.rules.specs.Lists.{each};
 ghost use Rattle.field.specs.Servers.{starts_at, all_stay, all_later};
 
-use checks::stays;
 use input_server::InputServer;
 use numbers::{Moment, ServerCount, Time};
 use output_server::OutputServer;
@@ -118,6 +117,13 @@ pub(crate) fn clock_at<S: Server>(
     } else {
         None
     }
+}
+
+// Whether a clock that is so much later can still be shown.
+fn stays(clock: Time, increment: u64) -> bool
+    ensures { result ≡ nat_le (clock.0 + increment) last_time }
+{
+    Moment::try_from(clock).is_ok_and(|moment| moment.later(increment).is_some())
 }
 
 // Whether the clock of each of the first servers can still be shown once it has moved by its increment.
