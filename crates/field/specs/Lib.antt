@@ -1,5 +1,6 @@
 pub mod Delivered
 pub mod Guaranteed
+pub mod Fields
 pub mod Getters
 pub mod Opened
 pub mod MessageChecks

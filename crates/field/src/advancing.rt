@@ -21,11 +21,9 @@ impl OpenField {
         systems: &Systems<I, O>,
         increments: &[u64],
     ) -> Result<(), Refusal>
-        ensures does {
-            let before = state_of self.old log.now table.now in
+        ensures does { let before = state_of self.old log.now table.now in
             advancing (I.meaning systems.now.inputs) (O.meaning systems.now.outputs) increments.now before
-            ≡ outcome (acceptance result) (state_of self.new log.now table.now)
-        }
+            ≡ outcome (acceptance result) (state_of self.new log.now table.now) }
         ensures same { OnErr result (self.new ≡ self.old) }
     {
         self.check_advance(log, table, systems, increments)?;
@@ -43,11 +41,9 @@ impl OpenField {
         systems: &Systems<I, O>,
         increments: &[u64],
     ) -> Result<(), Refusal>
-        ensures {
-            let s = state_of self.now log.now table.now in
+        ensures { let s = state_of self.now log.now table.now in
             refusal_said result
-            ≡ advancing_refusal (I.meaning systems.now.inputs) (O.meaning systems.now.outputs) increments.now s
-        }
+            ≡ advancing_refusal (I.meaning systems.now.inputs) (O.meaning systems.now.outputs) increments.now s }
     {
         if !self.is_as_opened(log, table, systems) {
             return Err(Refusal::NotAsOpened);
@@ -67,11 +63,9 @@ impl OpenField {
     // Whether every clock can still be shown once it has moved by its increment.
     fn clocks_stay(&self, increments: &[u64]) -> bool
         requires { length increments.now ≡ (frame_of self.now).counts.n + (frame_of self.now).counts.m }
-        ensures {
-            let s = state_of self.now [] [] in
+        ensures { let s = state_of self.now [] [] in
             result
-            ≡ (inputs_stay increments.now s.frame.counts.n s && outputs_stay increments.now s.frame.counts.m s)
-        }
+            ≡ (inputs_stay increments.now s.frame.counts.n s && outputs_stay increments.now s.frame.counts.m s) }
     {
         let (of_inputs, of_outputs) = increments.split_at(self.counts.inputs.index());
         all_stay(&self.inputs, of_inputs) && all_stay(&self.outputs, of_outputs)

@@ -1,5 +1,5 @@
 // Beginning an operation.
-ghost use Rattle.std.specs.Prelude.{Some, ◌≡◌, ◌<◌, false, List, length, is_ok};
+ghost use Rattle.std.specs.Prelude.{Some, ◌≡◌, ◌<◌, List, length, OnErr};
 ghost use Rattle.operation.specs.States.{operation_of};
 ghost use Rattle.rules.specs.declared.message.Message.{Message as AnyMessage};
 ghost use Rattle.rules.specs.Answers.{beginning_says, refusal_said};
@@ -8,8 +8,8 @@ ghost use Rattle.rules.specs.State.{outcome};
 ghost use Rattle.field.specs.Sound.{Sound};
 ghost use Rattle.field.specs.Views.{state_of};
 
-use crate::open_field::OpenField;
 use crate::logging::{ClockQuestions, ReadRequests};
+use crate::open_field::OpenField;
 use operation::{AskingWrite, Operation, Read};
 use quorum::{QuorumSystem, Refusal, Systems};
 use rules::{Message, has_room};
@@ -26,8 +26,10 @@ impl OpenField {
         value: u64,
     ) -> Result<u16, Refusal>
         requires { Sound (Some self.old) }
-        ensures does { beginning_write (I.QuorumSystem.meaning systems.now.inputs) (O.QuorumSystem.meaning systems.now.outputs) object value (state_of self.old log.old table.old) ≡ outcome (beginning_says result) (state_of self.new log.new table.new) }
-        ensures same { is_ok result ≡ false → (self.new ≡ self.old) × (log.new ≡ log.old) × (table.new ≡ table.old) }
+        ensures does { beginning_write (I.meaning systems.now.inputs) (O.meaning systems.now.outputs) object value
+            (state_of self.old log.old table.old)
+            ≡ outcome (beginning_says result) (state_of self.new log.new table.new) }
+        ensures same { OnErr result ((self.new ≡ self.old) × (log.new ≡ log.old) × (table.new ≡ table.old)) }
     {
         self.check_beginning(log, table, systems, object)?;
         let operation = self.begun + 1;
@@ -48,8 +50,10 @@ impl OpenField {
         object: u64,
     ) -> Result<u16, Refusal>
         requires { Sound (Some self.old) }
-        ensures does { beginning_read (I.QuorumSystem.meaning systems.now.inputs) (O.QuorumSystem.meaning systems.now.outputs) object (state_of self.old log.old table.old) ≡ outcome (beginning_says result) (state_of self.new log.new table.new) }
-        ensures same { is_ok result ≡ false → (self.new ≡ self.old) × (log.new ≡ log.old) × (table.new ≡ table.old) }
+        ensures does { beginning_read (I.meaning systems.now.inputs) (O.meaning systems.now.outputs) object
+            (state_of self.old log.old table.old)
+            ≡ outcome (beginning_says result) (state_of self.new log.new table.new) }
+        ensures same { OnErr result ((self.new ≡ self.old) × (log.new ≡ log.old) × (table.new ≡ table.old)) }
     {
         self.check_beginning(log, table, systems, object)?;
         let operation = self.begun + 1;
@@ -71,7 +75,9 @@ impl OpenField {
         systems: &Systems<I, O>,
         object: u64,
     ) -> Result<(), Refusal>
-        ensures { refusal_said result ≡ beginning_refusal (I.QuorumSystem.meaning systems.now.inputs) (O.QuorumSystem.meaning systems.now.outputs) object (state_of self.now log.now table.now) }
+        ensures { refusal_said result
+            ≡ beginning_refusal (I.meaning systems.now.inputs) (O.meaning systems.now.outputs) object
+            (state_of self.now log.now table.now) }
     {
         if !self.is_as_opened(log, table, systems) {
             return Err(Refusal::NotAsOpened);
@@ -91,7 +97,9 @@ impl OpenField {
     // The operation takes the next place of the table.
     fn enter(&mut self, table: &mut [Operation], operation: Operation)
         requires { (self.old.begun < length table.old) × (self.old.begun < 1024) }
-        ensures { (log : List AnyMessage) → state_of self.new log table.new ≡ entered (operation_of operation) (state_of self.old log table.old) }
+        ensures { (log : List AnyMessage)
+            → state_of self.new log table.new
+            ≡ entered (operation_of operation) (state_of self.old log table.old) }
     {
         table[self.begun as usize] = operation;
         self.begun += 1;

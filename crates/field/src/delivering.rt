@@ -1,5 +1,5 @@
 // Delivering a message.
-ghost use Rattle.std.specs.Prelude.{Some, ◌≡◌, false, is_ok, OnErr};
+ghost use Rattle.std.specs.Prelude.{Some, ◌≡◌, OnErr};
 ghost use Rattle.rules.specs.Answers.{delivery_says, refusal_said};
 ghost use Rattle.rules.specs.Calls.{hands_over, delivering, delivering_refusal};
 ghost use Rattle.rules.specs.State.{outcome};
@@ -20,11 +20,13 @@ impl OpenField {
         log: &mut [Message],
         table: &mut [Operation],
         systems: &Systems<I, O>,
-        number: usize,
+        number: u64,
     ) -> Result<Delivery, Refusal>
         requires { Sound (Some self.old) }
-        ensures does { delivering (I.QuorumSystem.meaning systems.now.inputs) (O.QuorumSystem.meaning systems.now.outputs) number (state_of self.old log.old table.old) ≡ outcome (delivery_says result) (state_of self.new log.new table.new) }
-        ensures same { is_ok result ≡ false → (self.new ≡ self.old) × (log.new ≡ log.old) × (table.new ≡ table.old) }
+        ensures does { delivering (I.meaning systems.now.inputs) (O.meaning systems.now.outputs) number
+            (state_of self.old log.old table.old)
+            ≡ outcome (delivery_says result) (state_of self.new log.new table.new) }
+        ensures same { OnErr result ((self.new ≡ self.old) × (log.new ≡ log.old) × (table.new ≡ table.old)) }
     {
         self.check_message(log, table, systems, number)?;
         self.hand_over(log, table, systems, number)
@@ -36,14 +38,16 @@ impl OpenField {
         log: &[Message],
         table: &[Operation],
         systems: &Systems<I, O>,
-        number: usize,
+        number: u64,
     ) -> Result<(), Refusal>
-        ensures { refusal_said result ≡ delivering_refusal (I.QuorumSystem.meaning systems.now.inputs) (O.QuorumSystem.meaning systems.now.outputs) number (state_of self.now log.now table.now) }
+        ensures { refusal_said result
+            ≡ delivering_refusal (I.meaning systems.now.inputs) (O.meaning systems.now.outputs) number
+            (state_of self.now log.now table.now) }
     {
         if !self.is_as_opened(log, table, systems) {
             return Err(Refusal::NotAsOpened);
         }
-        if number == 0 || number > self.made {
+        if number == 0 || number > self.made as u64 {
             return Err(Refusal::NoSuchMessage);
         }
         if !has_room(log, self.made) {
@@ -59,13 +63,17 @@ impl OpenField {
         log: &mut [Message],
         table: &mut [Operation],
         systems: &Systems<I, O>,
-        number: usize,
+        number: u64,
     ) -> Result<Delivery, Refusal>
-        requires { Deliverable (I.QuorumSystem.meaning systems.now.inputs) (O.QuorumSystem.meaning systems.now.outputs) self.old log.old table.old number }
-        ensures does { hands_over (I.QuorumSystem.meaning systems.now.inputs) (O.QuorumSystem.meaning systems.now.outputs) (numbered log.old number) (state_of self.old log.old table.old) ≡ outcome (delivery_says result) (state_of self.new log.new table.new) }
+        requires { Deliverable (I.meaning systems.now.inputs) (O.meaning systems.now.outputs)
+            self.old log.old table.old number }
+        ensures does { let i = I.meaning systems.now.inputs in
+            let o = O.meaning systems.now.outputs in
+            hands_over i o (numbered log.old number) (state_of self.old log.old table.old)
+            ≡ outcome (delivery_says result) (state_of self.new log.new table.new) }
         ensures same { OnErr result ((self.new ≡ self.old) × (log.new ≡ log.old) × (table.new ≡ table.old)) }
     {
-        match log[number - 1] {
+        match log[number as usize - 1] {
             Message::ClockQuestion { operation, input } => {
                 self.take_clock_question(log, table, operation, input)?;
             }

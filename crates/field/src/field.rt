@@ -2,8 +2,8 @@ ghost use Rattle.field.specs.Sound.{Sound};
 
 use crate::open_field::OpenField;
 
-// A field: once it is open, its servers, and how many messages were made and operations begun. The log
-// of messages and the table of operations lie with the caller.
+/// A field: once it is open, its servers, and how many messages were made and operations begun. The log
+/// of messages and the table of operations lie with the caller, who lends them to every call.
 #[derive(Drop)]
 pub struct Field {
     pub(crate) inside: Option<OpenField>,

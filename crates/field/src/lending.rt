@@ -16,7 +16,9 @@ impl OpenField {
         table: &[Operation],
         systems: &Systems<I, O>,
     ) -> bool
-        ensures { result ≡ as_opened (I.QuorumSystem.meaning systems.now.inputs) (O.QuorumSystem.meaning systems.now.outputs) (state_of self.now log.now table.now) }
+        ensures { result
+            ≡ as_opened (I.meaning systems.now.inputs) (O.meaning systems.now.outputs)
+            (state_of self.now log.now table.now) }
     {
         log.len() == self.log_len
             && table.len() == self.table_len

@@ -6,16 +6,17 @@ ghost use Rattle.rules.specs.declared.message.Message.{Message as AnyMessage};
 ghost use Rattle.rules.specs.Calls.{no_message};
 ghost use Rattle.rules.specs.Operation.{unused};
 ghost use Rattle.field.specs.Unopened.{unopened};
-ghost use Rattle.field.specs.Views.{field_of};
+ghost use Rattle.field.specs.Fields.{lent_to};
 
 use crate::field::Field;
 use operation::Operation;
 use rules::Message;
 
 impl Field {
-    // A field that is not yet open. It has no servers, and refuses every call but opening.
+    /// A field that is not yet open. It has no servers, and refuses 8 at every call but opening.
     pub fn new() -> Field
-        ensures { (log : List AnyMessage) (t : List Place) → field_of result.inside log t ≡ unopened log (map operation_of t) }
+        ensures { (log : List AnyMessage) (t : List Place) →
+            lent_to result log t ≡ unopened log (map operation_of t) }
     {
         Field { inside: None }
     }

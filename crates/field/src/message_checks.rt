@@ -24,10 +24,8 @@ impl OpenField {
     ) -> Result<OperationNumber, Refusal>
         requires few { self.now.begun ≤ last_operation }
         requires begun { self.now.begun ≤ length table.now }
-        ensures {
-            TestsRange (λ p. p.number)
-                (known_in (frame_of self.now).counts self.now.begun table.now operation) operation result
-        }
+        ensures { TestsRange (λ p. p.number)
+            (known_in (frame_of self.now).counts self.now.begun table.now operation) operation result }
     {
         if !self.knows(table, operation) {
             return Err(Refusal::OutOfRange);

@@ -23,15 +23,19 @@ impl OpenField {
         log: &mut [Message],
         table: &mut [Operation],
         systems: &Systems<I, O>,
-        number: usize,
+        number: u64,
         operation: u16,
     ) -> Result<Delivery, Refusal>
-        requires deliverable { Deliverable (I.QuorumSystem.meaning systems.now.inputs) (O.QuorumSystem.meaning systems.now.outputs) self.old log.old table.old number }
+        requires deliverable { Deliverable (I.meaning systems.now.inputs) (O.meaning systems.now.outputs)
+            self.old log.old table.old number }
         requires answers { IsAnswerTo operation (numbered log.old number) }
-        ensures does { hands_over (I.QuorumSystem.meaning systems.now.inputs) (O.QuorumSystem.meaning systems.now.outputs) (numbered log.old number) (state_of self.old log.old table.old) ≡ outcome (delivery_says result) (state_of self.new log.new table.new) }
+        ensures does { let i = I.meaning systems.now.inputs in
+            let o = O.meaning systems.now.outputs in
+            hands_over i o (numbered log.old number) (state_of self.old log.old table.old)
+            ≡ outcome (delivery_says result) (state_of self.new log.new table.new) }
         ensures same { OnErr result ((self.new ≡ self.old) × (log.new ≡ log.old) × (table.new ≡ table.old)) }
     {
-        if !self.is_in_range(&log[number - 1], table) {
+        if !self.is_in_range(&log[number as usize - 1], table) {
             return Err(Refusal::OutOfRange);
         }
         Ok(self.react(log, table, systems, number, operation))
@@ -44,16 +48,21 @@ impl OpenField {
         log: &mut [Message],
         table: &mut [Operation],
         systems: &Systems<I, O>,
-        number: usize,
+        number: u64,
         operation: u16,
     ) -> Delivery
-        requires deliverable { Deliverable (I.QuorumSystem.meaning systems.now.inputs) (O.QuorumSystem.meaning systems.now.outputs) self.old log.old table.old number }
-        requires reached { Reached (I.QuorumSystem.meaning systems.now.inputs) (O.QuorumSystem.meaning systems.now.outputs) table.old operation (numbered log.old number) }
-        ensures { handed_to (I.QuorumSystem.meaning systems.now.inputs) (O.QuorumSystem.meaning systems.now.outputs) (numbered log.old number) operation (state_of self.old log.old table.old) ≡ outcome (end_of result) (state_of self.new log.new table.new) }
+        requires deliverable { Deliverable (I.meaning systems.now.inputs) (O.meaning systems.now.outputs)
+            self.old log.old table.old number }
+        requires reached { Reached (I.meaning systems.now.inputs) (O.meaning systems.now.outputs)
+            table.old operation (numbered log.old number) }
+        ensures { let i = I.meaning systems.now.inputs in
+            let o = O.meaning systems.now.outputs in
+            handed_to i o (numbered log.old number) operation (state_of self.old log.old table.old)
+            ≡ outcome (end_of result) (state_of self.new log.new table.new) }
     {
         let place = operation as usize - 1;
         let before = std::mem::replace(&mut table[place], Operation::Unused);
-        let Ok(reaction) = before.answer(&log[number - 1], systems) else {
+        let Ok(reaction) = before.answer(&log[number as usize - 1], systems) else {
             unreachable!()
         };
         let (after, delivery) = self.follow(log, reaction);
@@ -66,7 +75,8 @@ impl OpenField {
         requires { self.old.made + 9 ≤ length log.old }
         ensures place { (i : System) → operation_of result.0 ≡ (place_step i reaction).next }
         ensures says { (i : System) → end_of result.1 ≡ (place_step i reaction).said }
-        ensures sends { (i : System) (t : List Place) → i.count ≡ self.old.counts.inputs.number → state_of self.new log.new t ≡ post (place_step i reaction).sends (state_of self.old log.old t) }
+        ensures sends { (i : System) (t : List Place) → i.count ≡ self.old.counts.inputs.number
+            → state_of self.new log.new t ≡ post (place_step i reaction).sends (state_of self.old log.old t) }
     {
         match reaction {
             Reaction::On(after) => (after, Delivery::NothingEnded),

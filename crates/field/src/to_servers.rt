@@ -29,11 +29,9 @@ impl OpenField {
     ) -> Result<(), Refusal>
         requires ready { Ready self.old log.old }
         requires begun { self.old.begun ≤ length table.now }
-        ensures does {
-            (i o : System) →
-                hands_over i o (Message.ClockQuestion operation input) (state_of self.old log.old table.now)
-                ≡ outcome (handing_says result) (state_of self.new log.new table.now)
-        }
+        ensures does { (i o : System) →
+            hands_over i o (Message.ClockQuestion operation input) (state_of self.old log.old table.now)
+            ≡ outcome (handing_says result) (state_of self.new log.new table.now) }
         ensures same { OnErr result ((self.new ≡ self.old) × (log.new ≡ log.old)) }
     {
         let me = self.counts.input(input)?;
@@ -57,12 +55,10 @@ impl OpenField {
     ) -> Result<(), Refusal>
         requires ready { Ready self.old log.old }
         requires begun { self.old.begun ≤ length table.now }
-        ensures does {
-            (i o : System) →
-                hands_over i o (Message.WriteRequest operation input pair.object pair.version value)
-                    (state_of self.old log.old table.now)
-                ≡ outcome (handing_says result) (state_of self.new log.new table.now)
-        }
+        ensures does { (i o : System) →
+            hands_over i o (Message.WriteRequest operation input pair.object pair.version value)
+            (state_of self.old log.old table.now)
+            ≡ outcome (handing_says result) (state_of self.new log.new table.now) }
         ensures same { OnErr result ((self.new ≡ self.old) × (log.new ≡ log.old)) }
     {
         let me = self.counts.input(input)?;
@@ -88,11 +84,9 @@ impl OpenField {
         renewal: Renewal,
     ) -> Result<(), Refusal>
         requires ready { Ready self.old log.old }
-        ensures does {
-            (i o : System) (t : List Place) →
-                hands_over i o (Message.RenewalRequest output input renewal) (state_of self.old log.old t)
-                ≡ outcome (handing_says result) (state_of self.new log.new t)
-        }
+        ensures does { (i o : System) (t : List Place) →
+            hands_over i o (Message.RenewalRequest output input renewal) (state_of self.old log.old t)
+            ≡ outcome (handing_says result) (state_of self.new log.new t) }
         ensures same { OnErr result ((self.new ≡ self.old) × (log.new ≡ log.old)) }
     {
         let between = self.counts.between(input, output, renewal)?;
@@ -116,11 +110,9 @@ impl OpenField {
         input: u8,
         list: Pairs,
     ) -> Result<(), Refusal>
-        ensures does {
-            (i o : System) (log : List AnyMessage) (t : List Place) →
-                hands_over i o (Message.InvalidationAnswer output input list) (state_of self.old log t)
-                ≡ outcome (handing_says result) (state_of self.new log t)
-        }
+        ensures does { (i o : System) (log : List AnyMessage) (t : List Place) →
+            hands_over i o (Message.InvalidationAnswer output input list) (state_of self.old log t)
+            ≡ outcome (handing_says result) (state_of self.new log t) }
         ensures same { OnErr result (self.new ≡ self.old) }
     {
         let between = self.counts.between(input, output, list)?;
@@ -140,12 +132,10 @@ impl OpenField {
         requires ready { Ready self.old log.old }
         requires begun { self.old.begun ≤ length table.now }
         requires counted { (I.meaning inputs.now).count ≡ self.old.counts.inputs.number }
-        ensures does {
-            (o : System) →
-                hands_over (I.meaning inputs.now) o (Message.ReadRequest operation output object)
-                    (state_of self.old log.old table.now)
-                ≡ outcome (handing_says result) (state_of self.new log.new table.now)
-        }
+        ensures does { (o : System) →
+            hands_over (I.meaning inputs.now) o (Message.ReadRequest operation output object)
+            (state_of self.old log.old table.now)
+            ≡ outcome (handing_says result) (state_of self.new log.new table.now) }
         ensures same { OnErr result ((self.new ≡ self.old) × (log.new ≡ log.old)) }
     {
         let me = self.counts.output(output)?;
@@ -167,12 +157,10 @@ impl OpenField {
         pair: Pair,
     ) -> Result<(), Refusal>
         requires ready { Ready self.old log.old }
-        ensures does {
-            (i o : System) (t : List Place) →
-                hands_over i o (Message.Invalidation input output pair.object pair.version)
-                    (state_of self.old log.old t)
-                ≡ outcome (handing_says result) (state_of self.new log.new t)
-        }
+        ensures does { (i o : System) (t : List Place) →
+            hands_over i o (Message.Invalidation input output pair.object pair.version)
+            (state_of self.old log.old t)
+            ≡ outcome (handing_says result) (state_of self.new log.new t) }
         ensures same { OnErr result ((self.new ≡ self.old) × (log.new ≡ log.old)) }
     {
         let between = self.counts.between(input, output, pair)?;
@@ -193,11 +181,9 @@ impl OpenField {
         renewed: Renewed,
     ) -> Result<(), Refusal>
         requires ready { Ready self.old log.old }
-        ensures does {
-            (i o : System) (t : List Place) →
-                hands_over i o (Message.RenewalAnswer input output renewed) (state_of self.old log.old t)
-                ≡ outcome (handing_says result) (state_of self.new log.new t)
-        }
+        ensures does { (i o : System) (t : List Place) →
+            hands_over i o (Message.RenewalAnswer input output renewed) (state_of self.old log.old t)
+            ≡ outcome (handing_says result) (state_of self.new log.new t) }
         ensures same { OnErr result ((self.new ≡ self.old) × (log.new ≡ log.old)) }
     {
         let between = self.counts.between(input, output, renewed)?;
