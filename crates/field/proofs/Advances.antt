@@ -1,5 +1,5 @@
 -- Advancing: what its tests say, and what it leaves.
-use Rattle.std.proofs.Common.{◌≡◌, ℕ, zero, suc, ◌+◌, ◌<◌, ◌≤◌, Bool, true, false, cond, not, ◌&&◌, eqb, leb, List, length, take, drop, get_or, Some, None, sym, refl, ap, ◌∙◌, arith}
+use Rattle.std.proofs.Common.{◌≡◌, ℕ, zero, suc, ◌+◌, ◌<◌, ◌≤◌, Bool, true, false, cond, not, ◌&&◌, eqb, leb, List, length, take, drop, set, get_or, Some, None, sym, refl, ap, ◌∙◌, arith}
 use Rattle.std.proofs.lemmas.List.{get_or-take, get_or-drop, length-take-le, length-drop}
 use Rattle.std.proofs.lemmas.Bool.{and_parts, not-false, eqb-true}
 use Rattle.quorum.specs.declared.refusal.Refusal.{Refusal}
@@ -7,11 +7,11 @@ use Rattle.quorum.specs.Refusals.{number_of}
 use Rattle.quorum.specs.Sets.{all_below}
 use Rattle.quorum.specs.Systems.{System}
 use Rattle.numbers.specs.Numbers.{last_time}
-use Rattle.rules.specs.Calls.{inputs_stay, outputs_stay, advancing_refusal, later_inputs, later_outputs, advanced, advancing}
+use Rattle.rules.specs.Calls.{inputs_stay, outputs_stay, advancing_refusal, each_later, advanced, advancing}
 use Rattle.rules.specs.Input.{Input, later_input}
 use Rattle.rules.specs.Output.{Output, later_output}
 use Rattle.rules.specs.Said.{accepted}
-use Rattle.rules.specs.State.{State, Outcome, outcome, refuse, no_input, no_output, input_at, output_at, with_input, with_output}
+use Rattle.rules.specs.State.{State, Outcome, outcome, refuse, no_input, no_output, input_at, output_at}
 use Rattle.field.specs.Servers.{all_stay, all_later}
 use Rattle.field.proofs.Refusing.{passes, later_passes, call_refuses, call_passes}
 
@@ -44,24 +44,18 @@ outputs_may xs s h =
 -- ---- the clocks that have moved
 
 abbrev with_inputs : List Input → State → State
-with_inputs ins s = record { frame = s.frame; made = s.made; begun = s.begun; inputs = ins; outputs = s.outputs; log = s.log; table = s.table }
+with_inputs ins s = record s { inputs = ins }
 
 abbrev with_outputs : List Output → State → State
-with_outputs outs s = record { frame = s.frame; made = s.made; begun = s.begun; inputs = s.inputs; outputs = outs; log = s.log; table = s.table }
+with_outputs outs s = record s { outputs = outs }
 
-inputs_moved : (xs ys : List ℕ) (c : ℕ) (s : State) → ((i : ℕ) → i < c → get_or ys i 0 ≡ get_or xs i 0)
-    → with_inputs (all_later later_input no_input ys c s.inputs) s ≡ later_inputs xs c s
-inputs_moved xs ys zero s h = refl
-inputs_moved xs ys (suc c) s h =
-    ap (λ (z : State). with_input c (later_input (get_or ys c 0) (input_at z c)) z) (inputs_moved xs ys c s (λ i l. h i (omega arith)))
-    ∙ ap (λ (x : ℕ). with_input c (later_input x (input_at (later_inputs xs c s) c)) (later_inputs xs c s)) (h c (omega arith))
-
-outputs_moved : (xs ys : List ℕ) (n c : ℕ) (s : State) → ((j : ℕ) → j < c → get_or ys j 0 ≡ get_or xs (n + j) 0)
-    → with_outputs (all_later later_output no_output ys c s.outputs) s ≡ later_outputs xs n c s
-outputs_moved xs ys n zero s h = refl
-outputs_moved xs ys n (suc c) s h =
-    ap (λ (z : State). with_output c (later_output (get_or ys c 0) (output_at z c)) z) (outputs_moved xs ys n c s (λ j l. h j (omega arith)))
-    ∙ ap (λ (x : ℕ). with_output c (later_output x (output_at (later_outputs xs n c s) c)) (later_outputs xs n c s)) (h c (omega arith))
+-- by a list of increments, and by their numbers
+moved_by : {A : Type 0} (later : ℕ → A → A) (none : A) (ys : List ℕ) (x : ℕ → ℕ) (c : ℕ) (servers : List A) → ((i : ℕ) → i < c → get_or ys i 0 ≡ x i)
+    → all_later later none ys c servers ≡ each_later later none x c servers
+moved_by later none ys x zero servers h = refl
+moved_by {A} later none ys x (suc c) servers h =
+    ap (λ (l : List A). set l c (later (get_or ys c 0) (get_or l c none))) (moved_by later none ys x c servers (λ i l. h i (omega arith)))
+    ∙ ap (λ (y : ℕ). set (each_later later none x c servers) c (later y (get_or (each_later later none x c servers) c none))) (h c (omega arith))
 
 -- ---- both sides, with the increments as they are cut
 
@@ -81,14 +75,13 @@ module _ (xs front back : List ℕ) (s : State) (h : length xs ≡ s.frame.count
       let m = s.frame.counts.m in
       let c : length (take n xs) ≡ n = length-take-le n xs (omega (arith, h)) in
       let d : length (drop n xs) ≡ m = omega (arith, length-drop n xs, h) in
-      ap (λ (l : List Output). with_outputs l (with_inputs ins s))
-      (f ∙ ap (λ (l : List ℕ). all_later later_output no_output l (length l) s.outputs) b
-      ∙ ap (λ (k : ℕ). all_later later_output no_output (drop n xs) k s.outputs) d)
-      ∙ outputs_moved xs (drop n xs) n m (with_inputs ins s) (λ j _. get_or-drop n xs j 0)
-      ∙ ap (λ (l : List Input). later_outputs xs n m (with_inputs l s))
-      (e ∙ ap (λ (l : List ℕ). all_later later_input no_input l (length l) s.inputs) a
-      ∙ ap (λ (k : ℕ). all_later later_input no_input (take n xs) k s.inputs) c)
-      ∙ ap (later_outputs xs n m) (inputs_moved xs (take n xs) n s (λ i l. get_or-take n xs i 0 l))
+      let p = e ∙ ap (λ (l : List ℕ). all_later later_input no_input l (length l) s.inputs) a
+      ∙ ap (λ (k : ℕ). all_later later_input no_input (take n xs) k s.inputs) c
+      ∙ moved_by later_input no_input (take n xs) (λ i. get_or xs i 0) n s.inputs (λ i l. get_or-take n xs i 0 l) in
+      let q = f ∙ ap (λ (l : List ℕ). all_later later_output no_output l (length l) s.outputs) b
+      ∙ ap (λ (k : ℕ). all_later later_output no_output (drop n xs) k s.outputs) d
+      ∙ moved_by later_output no_output (drop n xs) (λ j. get_or xs (n + j) 0) m s.outputs (λ j _. get_or-drop n xs j 0) in
+      λ z. record s { inputs = p z; outputs = q z }
 
 -- ---- the call
 

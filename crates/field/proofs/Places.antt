@@ -12,7 +12,7 @@ use Rattle.rules.specs.Ranges.{Counts, state_fits}
 use Rattle.rules.specs.Reaction.{Reaction, reacts}
 use Rattle.rules.specs.State.{outcome, post}
 use Rattle.operation.specs.declared.table.Operation as Code
-use Rattle.operation.specs.Alone.{refusal_at, reacted, alone}
+use Rattle.operation.specs.Alone.{refusal_at, taken, alone}
 use Rattle.operation.specs.States.{operation_of}
 use Rattle.field.specs.declared.open_field.OpenField.{OpenField}
 use Rattle.field.specs.MessageChecks.{place_of}
@@ -42,14 +42,14 @@ fits_is_of c p ended h = tt
 -- ---- an operation that is handed a message
 
 -- where it is not refused, the code's reaction is that of the rules
-reaction_is : (i o : System) (m : Message) (x : Operation) (r : Reaction) → refusal_at i o x m ≡ 0 → alone i o m x ≡ reacted r → reacts i o m x ≡ r
+reaction_is : (i o : System) (m : Message) (x : Operation) (r : Reaction) → refusal_at i o x m ≡ 0 → alone i o m x ≡ taken r → reacts i o m x ≡ r
 reaction_is i o m x r e d =
-    let here : alone i o m x ≡ reacted (reacts i o m x) = cond-true (eqb (refusal_at i o x m) 0) _ _ (eq-eqb (refusal_at i o x m) 0 e) in
-    let both : reacted (reacts i o m x) ≡ reacted r = sym here ∙ d in
+    let here : alone i o m x ≡ taken (reacts i o m x) = cond-true (eqb (refusal_at i o x m) 0) _ _ (eq-eqb (refusal_at i o x m) 0 e) in
+    let both : taken (reacts i o m x) ≡ taken r = sym here ∙ d in
     cc
 
 pub heard : (i o : System) (m : Message) (p : ℕ) (r : Reaction) (f g : OpenField) (log log' : List Message) (table : List Code.Operation) (u before after : Code.Operation) (d : Delivery)
-    → refusal_at i o (place_of table p) m ≡ 0 → operation_of before ≡ place_of table p → alone i o m (operation_of before) ≡ reacted r
+    → refusal_at i o (place_of table p) m ≡ 0 → operation_of before ≡ place_of table p → alone i o m (operation_of before) ≡ taken r
     → operation_of after ≡ r.next → end_of d ≡ r.said → ((t : List Code.Operation) → state_of g log' t ≡ post r.sends (state_of f log t))
     → handed_to i o m p (state_of f log table) ≡ outcome (end_of d) (state_of g log' (set (set table (p - 1) u) (p - 1) after))
 heard i o m p r f g log log' table u before after d accepts was does place says sends =

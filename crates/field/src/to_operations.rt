@@ -70,7 +70,8 @@ impl OpenField {
         delivery
     }
 
-    // What goes back to the place, and what is said. The requests of a write that has its version are logged.
+    // What goes back to the place, and what is said. The requests of a write that has its version
+    // are logged.
     fn follow(&mut self, log: &mut [Message], reaction: Reaction) -> (Operation, Delivery)
         requires { self.old.made + 9 ≤ length log.old }
         ensures place { (i : System) → operation_of result.0 ≡ (place_step i reaction).next }

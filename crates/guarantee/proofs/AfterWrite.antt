@@ -5,8 +5,6 @@ use Rattle.quorum.specs.declared.member_set.MemberSet.{MemberSet}
 use Rattle.quorum.specs.Sets.{has, joined, set_of}
 use Rattle.quorum.specs.Systems.{Lawful}
 use Rattle.rules.specs.declared.message.Message.{Message}
-use Rattle.rules.specs.declared.renewal.Renewal.{Renewal}
-use Rattle.rules.specs.declared.renewal.Renewed.{Renewed}
 use Rattle.rules.specs.declared.message.Message.TheVariants.{ClockQuestion, ClockAnswer, WriteRequest, WriteAnswer, ReadRequest, ReadAnswer, RenewalRequest, RenewalAnswer, Invalidation, InvalidationAnswer}
 use Rattle.numbers.specs.declared.version.Version.{Version}
 use Rattle.rules.specs.Input.{after_write}
@@ -18,12 +16,12 @@ use Rattle.guarantee.proofs.Ends.{WriteEnds, ReadEnds, GetsVersion}
 use Rattle.guarantee.proofs.RangeFacts.{fits_clock}
 use Rattle.guarantee.proofs.InputMoves as Ins
 use Rattle.guarantee.proofs.Keeps.{grows}
-use Rattle.guarantee.proofs.Kept.{slow, view, Begun, Named, OpOk, AskingOk, ReadingOk, Small, Kept, May, Grows, begun_grows}
+use Rattle.guarantee.proofs.Kept.{slow, view, Begun, MsgOk, Named, OpOk, AskingOk, ReadingOk, Small, Kept, May, Grows, begun_grows}
 use Rattle.guarantee.proofs.Next.{named_next, heard_next}
 use Rattle.guarantee.proofs.OutputMoves as Outs
 use Rattle.guarantee.proofs.Reacting.{sends_requests}
 use Rattle.guarantee.proofs.Sets.{of_set_of, of_joined}
-use Rattle.guarantee.proofs.Words.{In, All, all-++, all_at, each_all}
+use Rattle.guarantee.proofs.Words.{In, All, all_map, all-++, all_at, each_all}
 use Rattle.guarantee.proofs.PlainState.{Params, PlainState, Act, ticks, writes, reads, hears, run, reaction}
 
 -- what an act logs is what joins the log
@@ -32,19 +30,21 @@ sent_is P W (ticks x y) = sym (append-nil W.sent)
 sent_is P W (hears (ClockQuestion p i)) = refl
 sent_is P W a = refl
 
--- a fact of every message, where only some kinds say anything
-pub record Plain (X : Message → Type 0) : Type 0 where
-  pub requests : (p i o : ℕ) (v : Version) (x : ℕ) → X (WriteRequest p i o v x)
-  pub answers : (i p : ℕ) (t : MemberSet) → X (WriteAnswer i p t)
-  pub renewal_requests : (j i : ℕ) (r : Renewal) → X (RenewalRequest j i r)
-  pub renewal_answers : (i j : ℕ) (y : Renewed) → X (RenewalAnswer i j y)
-  pub invalidations : (i j o : ℕ) (v : Version) → X (Invalidation i j o v)
-  pub invalidation_answers : (j i : ℕ) (l : _) → X (InvalidationAnswer j i l)
+-- a fact of every message, of which only clock questions, clock answers, read requests and read answers say anything
+abbrev pub IsPlain : Message → Type 0
+IsPlain (ClockQuestion p i) = ⊥
+IsPlain (ClockAnswer i p c) = ⊥
+IsPlain (ReadRequest p j o) = ⊥
+IsPlain (ReadAnswer j p v x) = ⊥
+IsPlain m = Unit {0}
+
+abbrev pub Plain : (Message → Type 0) → Type 0
+Plain X = (m : Message) → IsPlain m → X m
 
 reaction_plain : (X : Message → Type 0) → Plain X → (P : Params) (m : Message) (y : Operation) → All X (reaction P m y).sends
-reaction_plain X f P = sends_requests P.inputs P.outputs X f.requests
+reaction_plain X f P = sends_requests P.inputs P.outputs X (λ p i o v x. f (WriteRequest p i o v x) tt)
 
--- such a fact holds of all that an act logs, if it holds of clock questions, clock answers, read requests and read answers
+-- such a fact holds of all that an act logs, if it holds of these four
 pub news_plain : (X : Message → Type 0) → Plain X → (P : Params) (W : PlainState)
     → ((i : ℕ) → X (ClockQuestion (W.begun + 1) i)) → ((o j : ℕ) → X (ReadRequest (W.begun + 1) j o))
     → (a : Act)
@@ -58,14 +58,14 @@ news_plain X f P W cq rq (reads o) ca ra = each_all X P.counts.m (λ j. ReadRequ
 news_plain X f P W cq rq (hears (ClockQuestion p i)) ca ra = (ca p i refl, tt)
 news_plain X f P W cq rq (hears (ClockAnswer i p c)) ca ra = reaction_plain X f P (ClockAnswer i p c) (W.op p)
 news_plain X f P W cq rq (hears (WriteRequest p i o v x)) ca ra =
-    Ins.names_write X i p P.counts.m o (after_write P.counts.m o v x (W.inp i)) (λ j. f.invalidations i j o _) (f.answers i p _)
+    Ins.names_write X i p P.counts.m o (after_write P.counts.m o v x (W.inp i)) (λ j. f _ tt) (f _ tt)
 news_plain X f P W cq rq (hears (WriteAnswer i p t)) ca ra = reaction_plain X f P (WriteAnswer i p t) (W.op p)
 news_plain X f P W cq rq (hears (ReadRequest p j o)) ca ra =
-    Outs.read_all P.inputs j p P.counts.n o (W.out j) X (ra p j o refl) (λ i l. f.renewal_requests j i _)
+    Outs.read_all P.inputs j p P.counts.n o (W.out j) X (ra p j o refl) (λ i l. f _ tt)
 news_plain X f P W cq rq (hears (ReadAnswer j p v x)) ca ra = reaction_plain X f P (ReadAnswer j p v x) (W.op p)
-news_plain X f P W cq rq (hears (RenewalRequest j i r)) ca ra = (f.renewal_answers i j _, tt)
-news_plain X f P W cq rq (hears (RenewalAnswer i j y)) ca ra = Outs.ack_all X j i y.list (f.invalidation_answers j i y.list)
-news_plain X f P W cq rq (hears (Invalidation i j o v)) ca ra = (f.invalidation_answers j i _, tt)
+news_plain X f P W cq rq (hears (RenewalRequest j i r)) ca ra = (f _ tt, tt)
+news_plain X f P W cq rq (hears (RenewalAnswer i j y)) ca ra = Outs.ack_all X j i y.list (f _ tt)
+news_plain X f P W cq rq (hears (Invalidation i j o v)) ca ra = (f _ tt, tt)
 news_plain X f P W cq rq (hears (InvalidationAnswer j i l)) ca ra = tt
 
 -- ---- a write that has ended
@@ -82,6 +82,51 @@ settled_grows P W V o w g s = record {
   enough = s.enough;
   stand = λ i j b k l. g.stands i j o w k l (s.stand i j b k l);
 }
+
+-- ---- an operation that begins after the end of a write
+
+-- Since the operation q began, a fact holds of every message made, and the write's fences stand
+pub record Since (P : Params) (X : Message → Type 0) (q o w : ℕ) (N : List MemberSet) (W : PlainState) : Type 0 where
+  pub stand : Named P W o w N
+  pub begun : Begun W q
+  pub said : All X W.sent
+
+module _ (P : Params) (small : Small P) (X : Message → Type 0) (q o w : ℕ) (N : List MemberSet) (W : PlainState) (k : Kept P W) (a : Act) (h : May P a W)
+    (news : All X (news_of P a W)) where
+  stands : Named P W o w N → Named P (run P a W) o w N
+  stands s i j b x y = (grows P small W k a h).stands i j o w x y (s i j b x y)
+
+  logged : All X W.sent → All X (run P a W).sent
+  logged s = subst (λ (l : List Message). All X l) (sym (sent_is P W a)) (all-++ X W.sent (news_of P a W) s news)
+
+  -- from the call that begins it
+  pub since_first : Named P W o w N → Begun (run P a W) q → ((m : Message) → MsgOk P W m → X m) → Since P X q o w N (run P a W)
+  since_first s b f = record { stand = stands s; begun = b; said = logged (all_map (MsgOk P W) X f W.sent k.msgs) }
+
+  -- and with each later one
+  pub since_next : Since P X q o w N W → Since P X q o w N (run P a W)
+  since_next s = record { stand = stands s.stand; begun = begun_grows P W (run P a W) (grows P small W k a h) q s.begun; said = logged s.said }
+
+-- of a read: what is asked for it and what answers it
+abbrev pub Late : Params → ℕ → ℕ → ℕ → List MemberSet → Message → Type 0
+Late P q o w N (ReadRequest p j z) = p ≡ q → z ≡ o
+Late P q o w N (ReadAnswer j p v x) = p ≡ q → j < P.counts.m → counts P.inputs P.inputs.count N j ≡ true → w ≤ v.0
+Late P q o w N m = Unit {0}
+
+-- of a write: what answers it
+abbrev pub Wise : Params → ℕ → ℕ → List MemberSet → ℕ → Message → Type 0
+Wise P q w N j (ClockAnswer i p c) = p ≡ q → has (named_by N i) j ≡ true → i < P.counts.n → w / 65536 ≤ c
+Wise P q w N j m = Unit {0}
+
+-- when the operation begins, no message names it yet
+pub late_first : (P : Params) (W : PlainState) (q o w : ℕ) (N : List MemberSet) → q ≡ W.begun + 1 → (m : Message) → MsgOk P W m → Late P q o w N m
+late_first P W q o w N e (ReadRequest p j z) h = λ f. absurd (let y = h.0.1 in omega arith)
+late_first P W q o w N e (ReadAnswer j p v x) h = λ f _ _. absurd (let y = h.0.1 in omega arith)
+late_first P W q o w N e m h = tt
+
+pub wise_first : (P : Params) (W : PlainState) (q w : ℕ) (N : List MemberSet) (j : ℕ) → q ≡ W.begun + 1 → (m : Message) → MsgOk P W m → Wise P q w N j m
+wise_first P W q w N j e (ClockAnswer i p c) h = λ f _ _. absurd (let y = h.1 in omega arith)
+wise_first P W q w N j e m h = tt
 
 module _ (P : Params) (small : Small P) (in_lawful : Lawful P.inputs) (out_lawful : Lawful P.outputs) where
   pub settles : (W : PlainState) → Kept P W → (a : Act) (p w y : ℕ) → May P a W → (e : WriteEnds P W a p w y) → Settled P (run P a W) e.write.object w
@@ -105,53 +150,28 @@ module _ (P : Params) (small : Small P) (in_lawful : Lawful P.inputs) (out_lawfu
       (Outs.good_good (W.inp x.0) (W.out j) x.0 j W.sent o g.1) in
       omega (arith, Outs.covered (W.out j) o P.counts.n x.0 p.0 g.0)
 
-  -- ---- a read that began later
+  -- ---- a read
 
-  abbrev pub Late : ℕ → ℕ → ℕ → List MemberSet → Message → Type 0
-  Late q o w N (ClockQuestion p i) = Unit {0}
-  Late q o w N (ClockAnswer i p c) = Unit {0}
-  Late q o w N (WriteRequest p i z v x) = Unit {0}
-  Late q o w N (WriteAnswer i p t) = Unit {0}
-  Late q o w N (ReadRequest p j z) = p ≡ q → z ≡ o
-  Late q o w N (ReadAnswer j p v x) = p ≡ q → j < P.counts.m → counts P.inputs P.inputs.count N j ≡ true → w ≤ v.0
-  Late q o w N (RenewalRequest j i r) = Unit {0}
-  Late q o w N (RenewalAnswer i j y) = Unit {0}
-  Late q o w N (Invalidation i j z v) = Unit {0}
-  Late q o w N (InvalidationAnswer j i l) = Unit {0}
+  late_plain : (q o w : ℕ) (N : List MemberSet) → Plain (Late P q o w N)
+  late_plain q o w N (ReadRequest p j z) h = absurd h
+  late_plain q o w N (ReadAnswer j p v x) h = absurd h
+  late_plain q o w N m h = tt
 
-  late_plain : (q o w : ℕ) (N : List MemberSet) → Plain (Late q o w N)
-  late_plain q o w N = record {
-    requests = λ _ _ _ _ _. tt;
-    answers = λ _ _ _. tt;
-    renewal_requests = λ _ _ _. tt;
-    renewal_answers = λ _ _ _. tt;
-    invalidations = λ _ _ _ _. tt;
-    invalidation_answers = λ _ _ _. tt;
-  }
-
-  pub record SinceRead (q o w : ℕ) (N : List MemberSet) (W : PlainState) : Type 0 where
-    pub stand : Named P W o w N
-    pub begun : Begun W q
-    pub said : All (Late q o w N) W.sent
-
-  pub since_read : (q o w : ℕ) (N : List MemberSet) (W : PlainState) → Kept P W → (a : Act) → May P a W → SinceRead q o w N W → SinceRead q o w N (run P a W)
-  since_read q o w N W k a h s = let g = grows P small W k a h in record {
-    stand = λ i j b x y. g.stands i j o w x y (s.stand i j b x y);
-    begun = begun_grows P W (run P a W) g q s.begun;
-    said = subst (λ (l : List Message). All (Late q o w N) l) (sym (sent_is P W a)) (all-++ (Late q o w N) W.sent (news_of P a W) s.said
-        (news_plain (Late q o w N) (late_plain q o w N) P W (λ _. tt) (λ z j e. absurd (let y = s.begun.1 in omega arith)) a (λ _ _ _. tt) answered));
-  }
+  pub late_news : (q o w : ℕ) (N : List MemberSet) (W : PlainState) → Kept P W → (a : Act) → May P a W → Since P (Late P q o w N) q o w N W
+      → All (Late P q o w N) (news_of P a W)
+  late_news q o w N W k a h s =
+      news_plain (Late P q o w N) (late_plain q o w N) P W (λ _. tt) (λ z j e. absurd (let y = s.begun.1 in omega arith)) a (λ _ _ _. tt) answered
     where
       answered : (p j z : ℕ) → a ≡ hears (ReadRequest p j z) → valid P.inputs P.counts.n z (W.out j) ≡ true
           → p ≡ q → j < P.counts.m → counts P.inputs P.inputs.count N j ≡ true → w ≤ (newest_of (W.out j) z).version.0
       answered p j z e v f l c =
           let may : May P (hears (ReadRequest p j z)) W = subst (λ (b : Act). May P b W) e h in
-          let d : z ≡ o = all_at (Late q o w N) (ReadRequest p j z) W.sent s.said may.0 f in
+          let d : z ≡ o = all_at (Late P q o w N) (ReadRequest p j z) W.sent s.said may.0 f in
           answers W k z w N (subst (λ (y : ℕ). Named P W y w N) (sym d) s.stand) j l c v
 
   -- its end
   pub read_not_behind : (q o w : ℕ) (W : PlainState) → Kept P W → (a : Act) (v y : ℕ) → May P a W → (settled : Settled P W o w)
-      → SinceRead q o w settled.named W → ReadEnds P W a q v y → w ≤ v
+      → Since P (Late P q o w settled.named) q o w settled.named W → ReadEnds P W a q v y → w ≤ v
   read_not_behind q o w W k a v y may settled s e =
       subst (λ (b : Act). May P b W → w ≤ v) (sym e.act) ends may
     where
@@ -162,56 +182,30 @@ module _ (P : Params) (small : Small P) (in_lawful : Lawful P.inputs) (out_lawfu
       ends h =
           let ok : ReadingOk W q e.read = subst (OpOk P W q) e.op (k.ops q s.begun) in
           let r = heard_next P small in_lawful W k e.from q e.pair_version e.pair_value h e.read e.op ok in
-          let t = since_read q o w N W k (hears (ReadAnswer e.from q e.pair_version e.pair_value)) h s in
+          let t = since_next P small (Late P q o w N) q o w N W k (hears (ReadAnswer e.from q e.pair_version e.pair_value)) h
+          (late_news q o w N W k (hears (ReadAnswer e.from q e.pair_version e.pair_value)) h s) s in
           let x = out_lawful.meet (hears_pair e.from e.pair_version e.pair_value e.read).senders
           (set_of P.outputs.count (counts P.inputs P.inputs.count N)) e.complete settled.enough in
           let c = of_set_of P.outputs.count (counts P.inputs P.inputs.count N) x.0 x.3 in
           let u = r.heard x.0 x.2 in
-          let l : w ≤ u.0.0 = all_at (Late q o w N) (ReadAnswer x.0 q u.0 u.1) _ t.said u.2 refl (let z = small.m_is in let y = x.1 in omega arith) c.1 in
+          let l : w ≤ u.0.0 = all_at (Late P q o w N) (ReadAnswer x.0 q u.0 u.1) _ t.said u.2 refl (let z = small.m_is in let y = x.1 in omega arith) c.1 in
           omega (arith, u.3, e.version)
 
-  -- ---- a write that began later
+  -- ---- a write
 
-  abbrev pub Wise : ℕ → ℕ → List MemberSet → ℕ → Message → Type 0
-  Wise q w N j (ClockQuestion p i) = Unit {0}
-  Wise q w N j (ClockAnswer i p c) = p ≡ q → has (named_by N i) j ≡ true → i < P.counts.n → w / 65536 ≤ c
-  Wise q w N j (WriteRequest p i z v x) = Unit {0}
-  Wise q w N j (WriteAnswer i p t) = Unit {0}
-  Wise q w N j (ReadRequest p b z) = Unit {0}
-  Wise q w N j (ReadAnswer b p v x) = Unit {0}
-  Wise q w N j (RenewalRequest b i r) = Unit {0}
-  Wise q w N j (RenewalAnswer i b y) = Unit {0}
-  Wise q w N j (Invalidation i b z v) = Unit {0}
-  Wise q w N j (InvalidationAnswer b i l) = Unit {0}
+  wise_plain : (q w : ℕ) (N : List MemberSet) (j : ℕ) → Plain (Wise P q w N j)
+  wise_plain q w N j (ClockAnswer i p c) h = absurd h
+  wise_plain q w N j m h = tt
 
-  wise_plain : (q w : ℕ) (N : List MemberSet) (j : ℕ) → Plain (Wise q w N j)
-  wise_plain q w N j = record {
-    requests = λ _ _ _ _ _. tt;
-    answers = λ _ _ _. tt;
-    renewal_requests = λ _ _ _. tt;
-    renewal_answers = λ _ _ _. tt;
-    invalidations = λ _ _ _ _. tt;
-    invalidation_answers = λ _ _ _. tt;
-  }
-
-  pub record SinceWrite (q o w : ℕ) (N : List MemberSet) (j : ℕ) (W : PlainState) : Type 0 where
-    pub stand : Named P W o w N
-    pub begun : Begun W q
-    pub said : All (Wise q w N j) W.sent
-
-  pub since_write : (q o w : ℕ) (N : List MemberSet) (j : ℕ) → j < P.counts.m → (W : PlainState) → Kept P W → (a : Act) → May P a W
-      → SinceWrite q o w N j W → SinceWrite q o w N j (run P a W)
-  since_write q o w N j l W k a h s = let g = grows P small W k a h in record {
-    stand = λ i b t x y. g.stands i b o w x y (s.stand i b t x y);
-    begun = begun_grows P W (run P a W) g q s.begun;
-    said = subst (λ (z : List Message). All (Wise q w N j) z) (sym (sent_is P W a)) (all-++ (Wise q w N j) W.sent (news_of P a W) s.said
-        (news_plain (Wise q w N j) (wise_plain q w N j) P W (λ _. tt) (λ _ _. tt) a (λ p i _ _ t n. (s.stand i j t n l).clock) (λ _ _ _ _ _. tt)));
-  }
+  pub wise_news : (q o w : ℕ) (N : List MemberSet) (j : ℕ) → j < P.counts.m → (W : PlainState) (a : Act) → Since P (Wise P q w N j) q o w N W
+      → All (Wise P q w N j) (news_of P a W)
+  wise_news q o w N j l W a s =
+      news_plain (Wise P q w N j) (wise_plain q w N j) P W (λ _. tt) (λ _ _. tt) a (λ p i _ _ t n. (s.stand i j t n l).clock) (λ _ _ _ _ _. tt)
 
   -- its version
   pub version_rises : (q o w : ℕ) (W : PlainState) → Kept P W → (a : Act) (z : ℕ) (v : Version) (x : ℕ) → May P a W → (settled : Settled P W o w)
       → (j : ℕ) → j < P.counts.m → counts P.inputs P.inputs.count settled.named j ≡ true
-      → SinceWrite q o w settled.named j W → (e : GetsVersion P W a q z v x) → e.named ≡ q → w < v.0
+      → Since P (Wise P q w settled.named j) q o w settled.named W → (e : GetsVersion P W a q z v x) → e.named ≡ q → w < v.0
   version_rises q o w W k a z v x may settled j l c s e same =
       subst (λ (b : Act). May P b W → w < v.0) (sym e.act) gets may
     where
@@ -222,7 +216,7 @@ module _ (P : Params) (small : Small P) (in_lawful : Lawful P.inputs) (out_lawfu
       i = e.from
 
       wise : (n c : ℕ) → In (ClockAnswer n q c) W.sent → has (named_by N n) j ≡ true → n < P.counts.n → w / 65536 ≤ c
-      wise n c h t b = all_at (Wise q w N j) (ClockAnswer n q c) W.sent s.said h refl t b
+      wise n c h t b = all_at (Wise P q w N j) (ClockAnswer n q c) W.sent s.said h refl t b
 
       gets : May P (hears (ClockAnswer i e.named e.clock)) W → w < v.0
       gets h =

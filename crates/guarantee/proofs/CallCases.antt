@@ -1,14 +1,14 @@
 -- The ways that a call can go. It refuses and alters nothing, or it has passed its tests and then does one of a few things.
 -- What holds of each of these holds of every call.
-use Rattle.std.proofs.Common.{◌≡◌, ℕ, Option, zero, suc, ◌+◌, ◌<◌, ◌≤◌, true, false, cond, not, ◌&&◌, ◌||◌, eqb, ltb, leb, ◌⊎◌, List, [], ◌∷◌, length, get_or, sym, refl, ap, ◌∙◌, subst, inl, inr, arith, length-append, length-set}
-use Rattle.std.proofs.lemmas.Bool.{cases_eq, cond_both, and_parts, or_parts, not-false, eqb-true, ltb-false, leb-true, leb-false}
+use Rattle.std.proofs.Common.{◌≡◌, ℕ, Option, ◌+◌, ◌<◌, ◌≤◌, true, false, not, ◌&&◌, ◌||◌, eqb, ltb, leb, ◌⊎◌, List, [], ◌∷◌, length, get_or, refl, ap, ◌∙◌, inl, inr, arith, length-append}
+use Rattle.std.proofs.lemmas.Bool.{cond_both, and_parts, or_parts, not-false, eqb-true, ltb-false, leb-true, leb-false}
 use Rattle.quorum.specs.Sets.{set_of}
 use Rattle.quorum.specs.Systems.{System}
 use Rattle.rules.specs.declared.message.Message.{Message}
 use Rattle.rules.specs.declared.message.Message.TheVariants.{ClockQuestion, ClockAnswer, WriteRequest, WriteAnswer, ReadRequest, ReadAnswer, RenewalRequest, RenewalAnswer, Invalidation, InvalidationAnswer}
 use Rattle.numbers.specs.declared.time.Time.{Time}
 use Rattle.numbers.specs.declared.version.Version.{Version}
-use Rattle.rules.specs.Calls.{opened, clocks_fit, opening, as_opened, unless, later_refusal, inputs_stay, outputs_stay, keeps_drift, later_inputs, later_outputs, advanced, advancing}
+use Rattle.rules.specs.Calls.{opened, clocks_fit, opening, as_opened, unless, later_refusal, inputs_stay, outputs_stay, keeps_drift, advanced, advancing}
 use Rattle.rules.specs.Calls.{enter, beginning, beginning_write, beginning_read, operation_at, is_known, in_range, reacted, handed_to, quiet, receives, message_at, delivering}
 use Rattle.rules.specs.Input.{Input, ledger, is_shut_out, invalidations, answers_clock, after_write, answers_write, after_renewal, answers_renewal, acknowledges_all, later_input}
 use Rattle.rules.specs.Lists.{list_of}
@@ -27,9 +27,11 @@ use Rattle.guarantee.proofs.Rows.{row, later_row}
 use Rattle.guarantee.proofs.RangeFacts.{within_range, RequestFits, RenewalFits, RenewedFits, fits_request, fits_renewal, fits_renewed, fits_invalidation, fits_ack}
 use Rattle.guarantee.proofs.InputMoves.{length_write, lease_end_write, lease_end_renewal, keeps_acknowledgement}
 use Rattle.guarantee.proofs.OutputMoves.{ack_length}
+use Rattle.guarantee.proofs.Later.{length_later, later_from}
 use Rattle.guarantee.proofs.Reacting.{sends_nine, ended_stays, refuses_none}
+use Rattle.guarantee.proofs.Sets.{below_passes}
 use Rattle.guarantee.proofs.ServerSteps.{more_made, write_bounds, renewal_bounds, ack_bounds, write_rises, renewal_rises, ack_rises, answer_bounds, told_bounds, answer_rises, told_rises}
-use Rattle.guarantee.proofs.Words.{set_from, each_length}
+use Rattle.guarantee.proofs.Words.{each_length}
 
 -- ---- what a call has found
 
@@ -162,28 +164,6 @@ later_ways inputs outputs own s x P stop go = later_row inputs outputs own s x P
 
 -- ---- advancing
 
-inputs_stay_lem : (increments : List ℕ) (c : ℕ) (s : State) → inputs_stay increments c s ≡ true → (i : ℕ) → i < c
-    → (input_at s i).clock.0 + get_or increments i 0 ≤ last_time
-inputs_stay_lem increments zero s h i l = absurd (omega arith)
-inputs_stay_lem increments (suc c) s h i l =
-    let b = and_parts (inputs_stay increments c s) (leb ((input_at s c).clock.0 + get_or increments c 0) last_time) h in
-    elim (cases_eq i c) [
-      | inl e ↦ subst (λ (k : ℕ). (input_at s k).clock.0 + get_or increments k 0 ≤ last_time) (sym e)
-          (leb-true ((input_at s c).clock.0 + get_or increments c 0) last_time b.1)
-      | inr e ↦ inputs_stay_lem increments c s b.0 i (omega arith)
-    ]
-
-outputs_stay_lem : (increments : List ℕ) (c : ℕ) (s : State) → outputs_stay increments c s ≡ true → (j : ℕ) → j < c
-    → (output_at s j).clock.0 + get_or increments (s.frame.counts.n + j) 0 ≤ last_time
-outputs_stay_lem increments zero s h j l = absurd (omega arith)
-outputs_stay_lem increments (suc c) s h j l =
-    let b = and_parts (outputs_stay increments c s) (leb ((output_at s c).clock.0 + get_or increments (s.frame.counts.n + c) 0) last_time) h in
-    elim (cases_eq j c) [
-      | inl e ↦ subst (λ (k : ℕ). (output_at s k).clock.0 + get_or increments (s.frame.counts.n + k) 0 ≤ last_time) (sym e)
-          (leb-true ((output_at s c).clock.0 + get_or increments (s.frame.counts.n + c) 0) last_time b.1)
-      | inr e ↦ outputs_stay_lem increments c s b.0 j (omega arith)
-    ]
-
 pub advancing_ways : (inputs outputs : System) (increments : List ℕ) (s : State) (P : Outcome → Type 0) → ((number : ℕ) → P (refuse number s))
     → (Found inputs outputs s → Stays increments s → P (outcome accepted (advanced increments s)))
     → P (advancing inputs outputs increments s)
@@ -194,8 +174,8 @@ advancing_ways inputs outputs increments s P stop go = later_ways inputs outputs
     row (not (keeps_drift s.frame.drift increments)) 13 _ s _ P (λ _. stop 13) (λ c.
     let stay = and_parts (inputs_stay increments s.frame.counts.n s) (outputs_stay increments s.frame.counts.m s) (not-false _ b) in
     go found (record {
-      inputs = inputs_stay_lem increments s.frame.counts.n s stay.0;
-      outputs = outputs_stay_lem increments s.frame.counts.m s stay.1;
+      inputs = λ i l. leb-true _ last_time (below_passes s.frame.counts.n _ i stay.0 l);
+      outputs = λ j l. leb-true _ last_time (below_passes s.frame.counts.m _ j stay.1 l);
     })))))
 
 -- what moving the clocks leaves
@@ -212,122 +192,18 @@ pub record Advanced (increments : List ℕ) (s t : State) : Type 0 where
   pub output : (j : ℕ) → (output_at t j ≡ output_at s j)
       ⊎ ((j < s.frame.counts.m) × (output_at t j ≡ later_output (get_or increments (s.frame.counts.n + j) 0) (output_at s j)))
 
--- the first c input servers are later, and nothing else changed
-record LaterInputs (increments : List ℕ) (c : ℕ) (s t : State) : Type 0 where
-  frame : t.frame ≡ s.frame
-  made : t.made ≡ s.made
-  begun : t.begun ≡ s.begun
-  log : t.log ≡ s.log
-  table : t.table ≡ s.table
-  outputs : t.outputs ≡ s.outputs
-  inputs : length t.inputs ≡ length s.inputs
-  input : (i : ℕ) → (input_at t i ≡ input_at s i) ⊎ ((i < c) × (input_at t i ≡ later_input (get_or increments i 0) (input_at s i)))
-
-later_inputs_lem : (increments : List ℕ) (c : ℕ) (s : State) → LaterInputs increments c s (later_inputs increments c s)
-later_inputs_lem increments zero s = record {
-  frame = refl;
-  made = refl;
-  begun = refl;
-  log = refl;
-  table = refl;
-  outputs = refl;
-  inputs = refl;
-  input = λ i. inl refl;
-}
-later_inputs_lem increments (suc c) s = step (later_inputs increments c s) (later_inputs_lem increments c s)
-  where
-    step : (t : State) → LaterInputs increments c s t
-        → LaterInputs increments (suc c) s (with_input c (later_input (get_or increments c 0) (input_at t c)) t)
-    step t r = record {
-      frame = r.frame;
-      made = r.made;
-      begun = r.begun;
-      log = r.log;
-      table = r.table;
-      outputs = r.outputs;
-      inputs = length-set t.inputs c (later_input (get_or increments c 0) (input_at t c)) ∙ r.inputs;
-      input = λ i. elim (set_from t.inputs c i (later_input (get_or increments c 0) (input_at t c)) no_input) [
-        | inl e ↦ elim (r.input i) [ inl d ↦ inl (e ∙ d) | inr d ↦ inr (omega (arith, d.0), e ∙ d.1) ]
-        | inr e ↦ inr (
-          omega (arith, e.0),
-          e.1 ∙ subst (λ (k : ℕ). later_input (get_or increments c 0) (input_at t c) ≡ later_input (get_or increments k 0) (input_at s k)) e.0
-              (ap (λ (I : Input). later_input (get_or increments c 0) I) (own c (r.input c))),
-        )
-      ];
-    }
-      where
-        own : (k : ℕ) → (input_at t k ≡ input_at s k) ⊎ ((k < k) × (input_at t k ≡ later_input (get_or increments k 0) (input_at s k))) → input_at t k ≡ input_at s k
-        own k (inl e) = e
-        own k (inr e) = absurd (omega (arith, e.0))
-
-record LaterOutputs (increments : List ℕ) (from c : ℕ) (s t : State) : Type 0 where
-  frame : t.frame ≡ s.frame
-  made : t.made ≡ s.made
-  begun : t.begun ≡ s.begun
-  log : t.log ≡ s.log
-  table : t.table ≡ s.table
-  inputs : t.inputs ≡ s.inputs
-  outputs : length t.outputs ≡ length s.outputs
-  output : (j : ℕ) → (output_at t j ≡ output_at s j) ⊎ ((j < c) × (output_at t j ≡ later_output (get_or increments (from + j) 0) (output_at s j)))
-
-later_outputs_lem : (increments : List ℕ) (from c : ℕ) (s : State) → LaterOutputs increments from c s (later_outputs increments from c s)
-later_outputs_lem increments from zero s = record {
-  frame = refl;
-  made = refl;
-  begun = refl;
-  log = refl;
-  table = refl;
-  inputs = refl;
-  outputs = refl;
-  output = λ j. inl refl;
-}
-later_outputs_lem increments from (suc c) s = step (later_outputs increments from c s) (later_outputs_lem increments from c s)
-  where
-    step : (t : State) → LaterOutputs increments from c s t
-        → LaterOutputs increments from (suc c) s (with_output c (later_output (get_or increments (from + c) 0) (output_at t c)) t)
-    step t r = record {
-      frame = r.frame;
-      made = r.made;
-      begun = r.begun;
-      log = r.log;
-      table = r.table;
-      inputs = r.inputs;
-      outputs = length-set t.outputs c (later_output (get_or increments (from + c) 0) (output_at t c)) ∙ r.outputs;
-      output = λ j. elim (set_from t.outputs c j (later_output (get_or increments (from + c) 0) (output_at t c)) no_output) [
-        | inl e ↦ elim (r.output j) [ inl d ↦ inl (e ∙ d) | inr d ↦ inr (omega (arith, d.0), e ∙ d.1) ]
-        | inr e ↦ inr (
-          omega (arith, e.0),
-          e.1 ∙ subst (λ (k : ℕ). later_output (get_or increments (from + c) 0) (output_at t c) ≡ later_output (get_or increments (from + k) 0) (output_at s k)) e.0
-              (ap (λ (O : Output). later_output (get_or increments (from + c) 0) O) (own c (r.output c))),
-        )
-      ];
-    }
-      where
-        own : (k : ℕ) → (output_at t k ≡ output_at s k) ⊎ ((k < k) × (output_at t k ≡ later_output (get_or increments (from + k) 0) (output_at s k))) → output_at t k ≡ output_at s k
-        own k (inl e) = e
-        own k (inr e) = absurd (omega (arith, e.0))
-
 pub advances : (increments : List ℕ) (s : State) → Advanced increments s (advanced increments s)
-advances increments s =
-    join (later_inputs increments s.frame.counts.n s) (advanced increments s)
-    (later_inputs_lem increments s.frame.counts.n s)
-    (later_outputs_lem increments s.frame.counts.n s.frame.counts.m (later_inputs increments s.frame.counts.n s))
-  where
-    join : (u t : State) → LaterInputs increments s.frame.counts.n s u
-        → LaterOutputs increments s.frame.counts.n s.frame.counts.m u t → Advanced increments s t
-    join u t a b = record {
-      frame = b.frame ∙ a.frame;
-      made = b.made ∙ a.made;
-      begun = b.begun ∙ a.begun;
-      log = b.log ∙ a.log;
-      table = b.table ∙ a.table;
-      inputs = ap (λ (l : List Input). length l) b.inputs ∙ a.inputs;
-      outputs = b.outputs ∙ ap (λ (l : List Output). length l) a.outputs;
-      input = λ i. subst (λ (l : List Input). (get_or l i no_input ≡ input_at s i)
-          ⊎ ((i < s.frame.counts.n) × (get_or l i no_input ≡ later_input (get_or increments i 0) (input_at s i)))) (sym b.inputs) (a.input i);
-      output = λ j. subst (λ (l : List Output). (output_at t j ≡ get_or l j no_output)
-          ⊎ ((j < s.frame.counts.m) × (output_at t j ≡ later_output (get_or increments (s.frame.counts.n + j) 0) (get_or l j no_output)))) a.outputs (b.output j);
-    }
+advances increments s = record {
+  frame = refl;
+  made = refl;
+  begun = refl;
+  log = refl;
+  table = refl;
+  inputs = length_later later_input no_input (λ i. get_or increments i 0) s.inputs s.frame.counts.n;
+  outputs = length_later later_output no_output (λ j. get_or increments (s.frame.counts.n + j) 0) s.outputs s.frame.counts.m;
+  input = later_from later_input no_input (λ i. get_or increments i 0) s.inputs s.frame.counts.n;
+  output = later_from later_output no_output (λ j. get_or increments (s.frame.counts.n + j) 0) s.outputs s.frame.counts.m;
+}
 
 -- ---- beginning
 

@@ -5,7 +5,7 @@ use Rattle.std.proofs.lemmas.Bool.{cases_eq, cond-false, lt-ltb, le-ltb, false�
 use Rattle.quorum.specs.declared.member_set.MemberSet.{MemberSet}
 use Rattle.quorum.specs.Sets.{has, set_of}
 use Rattle.rules.specs.declared.message.Message.{Message}
-use Rattle.rules.specs.declared.message.Message.TheVariants.{ClockQuestion, ClockAnswer, WriteRequest, WriteAnswer, ReadRequest, ReadAnswer, RenewalRequest, RenewalAnswer, Invalidation, InvalidationAnswer}
+use Rattle.rules.specs.declared.message.Message.TheVariants.{WriteAnswer, Invalidation}
 use Rattle.rules.specs.Calls.{enter, operation_at, with_operation, advanced}
 use Rattle.rules.specs.Input.{Input, held, ledger, is_shut_out, invalidations, answers_write}
 use Rattle.rules.specs.Operation.{Operation, unused, ended}
@@ -20,7 +20,7 @@ use Rattle.guarantee.proofs.InputMoves.{names_below_write}
 use Rattle.guarantee.proofs.ServerSteps.{changed, input_same, later_rises, output_same, later_output_rises, queues_leaves, acks_leaves}
 use Rattle.guarantee.proofs.Sets.{has-set_of}
 use Rattle.guarantee.proofs.CallCases.{InputStep, OutputStep, Reacts, NotRefused, Advanced, advances, call_ways}
-use Rattle.guarantee.proofs.Words.{set_from, In, All, Any, any_old, any_new, any_each}
+use Rattle.guarantee.proofs.Words.{never, set_from, In, All, Any, any_old, any_new, any_each}
 
 -- ---- refusals
 
@@ -28,9 +28,9 @@ pub refusals_alter_nothing : RefusalsAlterNothing
 refusals_alter_nothing inputs outputs c s = call_ways inputs outputs s (λ r. (number : ℕ) → r.said ≡ refused number → r.after ≡ s)
     (record {
       refuses = λ _ _ _. refl;
-      opens = λ k lease drift clocks h number e. clash number accepted e (λ n d. let z : ◌≡◌ {A = ℕ} 0 1 = cc in omega arith);
-      advances = λ increments found stays number e. clash number accepted e (λ n d. let z : ◌≡◌ {A = ℕ} 0 1 = cc in omega arith);
-      begins = λ x new found room nine short number e. clash number (began (s.begun + 1)) e (λ n d. let z : ◌≡◌ {A = ℕ} 0 1 = cc in omega arith);
+      opens = λ k lease drift clocks h number e. clash number accepted e (λ n d. never (cc));
+      advances = λ increments found stays number e. clash number accepted e (λ n d. never (cc));
+      begins = λ x new found room nine short number e. clash number (began (s.begun + 1)) e (λ n d. never (cc));
       delivers = λ found nine. record {
         logs = λ new short number e. clash number nothing_ended e still;
         reacts = λ p r how number e. clash number r.said e how.says;
@@ -41,7 +41,7 @@ refusals_alter_nothing inputs outputs c s = call_ways inputs outputs s (λ r. (n
     }) c
   where
     still : NotRefused nothing_ended
-    still n d = let z : ◌≡◌ {A = ℕ} 0 1 = cc in omega arith
+    still n d = never (cc)
 
     clash : {A : Type 0} (number : ℕ) (r : Said) → r ≡ refused number → NotRefused r → A
     clash number r e h = absurd (h number e)
@@ -227,16 +227,8 @@ in_has (y ∷ l) x (inr h) = let r = in_has l x h in (suc r.0, omega (arith, r.1
 
 -- of an invalidation: to whom it goes and what it carries
 abbrev Told : Input → ℕ → ℕ → ℕ → Message → Type 0
-Told I i m o (ClockQuestion p k) = Unit {0}
-Told I i m o (ClockAnswer k p c) = Unit {0}
-Told I i m o (WriteRequest p k q v x) = Unit {0}
-Told I i m o (WriteAnswer k p t) = Unit {0}
-Told I i m o (ReadRequest p j q) = Unit {0}
-Told I i m o (ReadAnswer j p v x) = Unit {0}
-Told I i m o (RenewalRequest j k r) = Unit {0}
-Told I i m o (RenewalAnswer k j y) = Unit {0}
 Told I i m o (Invalidation k j q v) = (k ≡ i) × (j < m) × (q ≡ o) × (v ≡ (held I o).version) × (is_shut_out I o j ≡ false)
-Told I i m o (InvalidationAnswer j k l) = Unit {0}
+Told I i m o message = Unit {0}
 
 pub only_others_are_told : OnlyOthersAreTold
 only_others_are_told I i p m o k j q v h = all_has (Told I i m o) (answers_write i p m o I) (Invalidation k j q v)
@@ -253,17 +245,9 @@ all_others_are_told I i p m o j l h = in_has (answers_write i p m o I) x
 
 -- of a write answer: to whom it goes and whom it names
 abbrev Named : Input → ℕ → ℕ → ℕ → ℕ → Message → Type 0
-Named I i p m o (ClockQuestion q k) = Unit {0}
-Named I i p m o (ClockAnswer k q c) = Unit {0}
-Named I i p m o (WriteRequest q k b v x) = Unit {0}
 Named I i p m o (WriteAnswer k q t) =
     (k ≡ i) × (q ≡ p) × ((j : ℕ) → j < m → has t.0 j ≡ is_shut_out I o j) × ((j : ℕ) → m ≤ j → has t.0 j ≡ false)
-Named I i p m o (ReadRequest q j b) = Unit {0}
-Named I i p m o (ReadAnswer j q v x) = Unit {0}
-Named I i p m o (RenewalRequest j k r) = Unit {0}
-Named I i p m o (RenewalAnswer k j y) = Unit {0}
-Named I i p m o (Invalidation k j b v) = Unit {0}
-Named I i p m o (InvalidationAnswer j k l) = Unit {0}
+Named I i p m o message = Unit {0}
 
 pub named_is_shut_out : NamedIsShutOut
 named_is_shut_out I m o j l = has-set_of m (is_shut_out I o) j ∙ ap (λ (b : Bool). b && is_shut_out I o j) (lt-ltb j m l)

@@ -1,25 +1,26 @@
 -- Each of the calls on an open field: it refuses and leaves the state as it was, or it is accepted.
-use Rattle.std.proofs.Common.{◌≡◌, ℕ, Option, zero, suc, ◌+◌, ◌-◌, ◌*◌, ◌<◌, ◌≤◌, Bool, true, false, cond, not, ◌&&◌, ◌||◌, eqb, ltb, leb, ◌⊎◌, List, [], ◌∷◌, length, get_or, take, drop, sym, refl, ap, ◌∙◌, subst, inl, inr, add-zero, arith, length-set}
+use Rattle.std.proofs.Common.{◌≡◌, ℕ, Option, zero, suc, ◌+◌, ◌-◌, ◌*◌, ◌<◌, ◌≤◌, Bool, true, false, cond, not, ◌&&◌, ◌||◌, eqb, ltb, leb, ◌⊎◌, List, [], ◌∷◌, length, get_or, sym, refl, ap, ◌∙◌, subst, inl, inr, add-zero, arith, length-set}
 use mathlib.Core.Path.{fun_ext}
 use lib.Seq.{length-sets}
-use Rattle.std.proofs.lemmas.Bool.{cases_eq, cases_lt, cond_both, cond-true, and_parts, or_parts, leb-true, leb-false, ltb-false, eqb-true, eqb-false, not-false, lt-ltb, le-ltb}
+use Rattle.std.proofs.lemmas.Bool.{cases_lt, cond_both, and_parts, or_parts, leb-true, leb-false, ltb-false, eqb-true, eqb-false, not-false, lt-ltb}
 use Rattle.quorum.specs.Systems.{System}
 use Rattle.rules.specs.declared.message.Message.{Message}
 use Rattle.rules.specs.declared.message.Message.TheVariants.{ClockQuestion, ReadRequest}
-use Rattle.rules.specs.Calls.{opening, advancing, beginning, beginning_write, beginning_read, delivering, unless, later_refusal, inputs_stay, outputs_stay, keeps_with, keep_each, keeps_drift, later_inputs, later_outputs, advanced, enter, operation_at, is_known, in_range, receives, message_at, no_message}
+use Rattle.rules.specs.Calls.{opening, advancing, beginning, beginning_write, beginning_read, delivering, unless, later_refusal, inputs_stay, outputs_stay, keeps_with, keep_each, keeps_drift, advanced, enter, operation_at, is_known, in_range, receives, message_at, no_message}
 use Rattle.rules.specs.Input.{Input, later_input}
 use Rattle.numbers.specs.Numbers.{keeps_pair}
-use Rattle.rules.specs.Operation.{Operation, unused, asking, reading, first_asking, first_reading, clock_questions, read_requests}
+use Rattle.rules.specs.Operation.{Operation, asking, reading, first_asking, first_reading, clock_questions, read_requests}
 use Rattle.rules.specs.Output.{Output, later_output}
 use Rattle.rules.specs.Steps.{has_room}
 use Rattle.rules.specs.Ranges.{numbers_fit, operation_fits, has_next_clock}
 use Rattle.rules.specs.Said.{accepted, began}
-use Rattle.rules.specs.State.{Frame, State, Outcome, outcome, refuse, no_input, no_output, input_at, output_at, post}
+use Rattle.rules.specs.State.{State, Outcome, outcome, refuse, no_input, no_output, post}
 use Rattle.guarantee.specs.Story.{Call, to_open, to_advance, to_write, to_read, to_deliver, outcome_of}
 use Rattle.guarantee.proofs.CallEffects.{params_of, act_of, says_of, news_of, Framed, Accepted, logged, none_logged, in_sent, receives_accepted}
 use Rattle.guarantee.proofs.Kept.{Small, May}
+use Rattle.guarantee.proofs.Later.{length_later, later_at}
 use Rattle.guarantee.proofs.Rows.{row, later_row, first_refuses}
-use Rattle.guarantee.proofs.Words.{at, at_same, at_miss, set_at, each_nine}
+use Rattle.guarantee.proofs.Words.{each_nine}
 use Rattle.guarantee.proofs.PlainState.{Params, Act, writes, reads, run, begins, plain_of, plain_path, sent_post, op_enter}
 
 -- a refusal leaves the state as it was
@@ -34,91 +35,12 @@ no P s a number = inl (number, refl)
 
 -- ---- time passes
 
--- what a loop over the input servers leaves as it was
-pub record InputsOnly (s t : State) : Type 0 where
-  pub frame : t.frame ≡ s.frame
-  pub made : t.made ≡ s.made
-  pub begun : t.begun ≡ s.begun
-  pub outputs : t.outputs ≡ s.outputs
-  pub log : t.log ≡ s.log
-  pub table : t.table ≡ s.table
-  pub inputs : length t.inputs ≡ length s.inputs
-
-pub inputs_only : (xs : List ℕ) (c : ℕ) (s : State) → InputsOnly s (later_inputs xs c s)
-inputs_only xs zero s = record { frame = refl; made = refl; begun = refl; outputs = refl; log = refl; table = refl; inputs = refl }
-inputs_only xs (suc c) s = let r = inputs_only xs c s in record {
-  frame = r.frame;
-  made = r.made;
-  begun = r.begun;
-  outputs = r.outputs;
-  log = r.log;
-  table = r.table;
-  inputs = length-set (later_inputs xs c s).inputs c (later_input (get_or xs c 0) (input_at (later_inputs xs c s) c)) ∙ r.inputs;
-}
-
-pub record OutputsOnly (s t : State) : Type 0 where
-  pub frame : t.frame ≡ s.frame
-  pub made : t.made ≡ s.made
-  pub begun : t.begun ≡ s.begun
-  pub inputs : t.inputs ≡ s.inputs
-  pub log : t.log ≡ s.log
-  pub table : t.table ≡ s.table
-  pub outputs : length t.outputs ≡ length s.outputs
-
-pub outputs_only : (xs : List ℕ) (from c : ℕ) (s : State) → OutputsOnly s (later_outputs xs from c s)
-outputs_only xs from zero s = record { frame = refl; made = refl; begun = refl; inputs = refl; log = refl; table = refl; outputs = refl }
-outputs_only xs from (suc c) s = let r = outputs_only xs from c s in record {
-  frame = r.frame;
-  made = r.made;
-  begun = r.begun;
-  inputs = r.inputs;
-  log = r.log;
-  table = r.table;
-  outputs = length-set (later_outputs xs from c s).outputs c (later_output (get_or xs (from + c) 0) (output_at (later_outputs xs from c s) c)) ∙ r.outputs;
-}
-
 -- a clock that does not move
 input_rests : (I : Input) → later_input 0 I ≡ I
 input_rests I = ap (λ (t : ℕ). record { clock = record { 0 = t }; lc = I.lc; objects = I.objects; ledgers = I.ledgers; waiting = I.waiting }) (add-zero I.clock.0)
 
 output_rests : (O : Output) → later_output 0 O ≡ O
 output_rests O = ap (λ (t : ℕ). record { clock = record { 0 = t }; newest = O.newest; links = O.links }) (add-zero O.clock.0)
-
--- one place more of a rising loop, for any servers
-later_more : {A : Type 0} (later : ℕ → A → A) (rests : (a : A) → later 0 a ≡ a) (f g : ℕ → A) (step : ℕ → ℕ) (c : ℕ)
-    → ((i : ℕ) → g i ≡ later (cond (ltb i c) (step i) 0) (f i))
-    → (i : ℕ) → at c (later (step c) (g c)) g i ≡ later (cond (ltb i (suc c)) (step i) 0) (f i)
-later_more later rests f g step c h i = elim (cases_eq c i) [
-  | inl e ↦ subst (λ (k : ℕ). at c (later (step c) (g c)) g k ≡ later (cond (ltb k (suc c)) (step k) 0) (f k)) e
-      (at_same c (later (step c) (g c)) g
-      ∙ ap (later (step c)) (h c ∙ ap (λ (b : Bool). later (cond b (step c) 0) (f c)) (le-ltb c c (omega arith)) ∙ rests (f c))
-      ∙ ap (λ (b : Bool). later (cond b (step c) 0) (f c)) (sym (lt-ltb c (suc c) (omega arith))))
-  | inr e ↦ at_miss c i (later (step c) (g c)) g e ∙ h i ∙ ap (λ (b : Bool). later (cond b (step i) 0) (f i)) (same i e)
-]
-  where
-    same : (i : ℕ) → (c ≡ i → ⊥) → ltb i c ≡ ltb i (suc c)
-    same i e = elim (cases_lt i c) [
-      | inl l ↦ lt-ltb i c l ∙ sym (lt-ltb i (suc c) (omega arith))
-      | inr l ↦ le-ltb i c l ∙ sym (le-ltb i (suc c) (omega arith))
-    ]
-
-pub inputs_later : (xs : List ℕ) (s : State) (c : ℕ) → c ≤ length s.inputs
-    → (i : ℕ) → input_at (later_inputs xs c s) i ≡ later_input (cond (ltb i c) (get_or xs i 0) 0) (input_at s i)
-inputs_later xs s zero l i =
-    sym (ap (λ (b : Bool). later_input (cond b (get_or xs i 0) 0) (input_at s i)) (le-ltb i 0 (omega arith)) ∙ input_rests (input_at s i))
-inputs_later xs s (suc c) l i =
-    let r = (inputs_only xs c s).inputs in
-    set_at (later_inputs xs c s).inputs c i (later_input (get_or xs c 0) (input_at (later_inputs xs c s) c)) _ (omega arith)
-    ∙ later_more later_input input_rests (input_at s) (input_at (later_inputs xs c s)) (λ k. get_or xs k 0) c (inputs_later xs s c (omega arith)) i
-
-pub outputs_later : (xs : List ℕ) (from : ℕ) (s : State) (c : ℕ) → c ≤ length s.outputs
-    → (j : ℕ) → output_at (later_outputs xs from c s) j ≡ later_output (cond (ltb j c) (get_or xs (from + j) 0) 0) (output_at s j)
-outputs_later xs from s zero l j =
-    sym (ap (λ (b : Bool). later_output (cond b (get_or xs (from + j) 0) 0) (output_at s j)) (le-ltb j 0 (omega arith)) ∙ output_rests (output_at s j))
-outputs_later xs from s (suc c) l j =
-    let r = (outputs_only xs from c s).outputs in
-    set_at (later_outputs xs from c s).outputs c j (later_output (get_or xs (from + c) 0) (output_at (later_outputs xs from c s) c)) _ (omega arith)
-    ∙ later_more later_output output_rests (output_at s) (output_at (later_outputs xs from c s)) (λ k. get_or xs (from + k) 0) c (outputs_later xs from s c (omega arith)) j
 
 -- what the pairwise test says of two increments
 keeps_with_lem : (d x : ℕ) (ys : List ℕ) → keeps_with d x ys ≡ true → (b : ℕ) → b < length ys → (1000 - d) * get_or ys b 0 ≤ 1000 * x
@@ -204,18 +126,6 @@ module _ (inputs outputs : System) (s : State) (f : Framed s) (small : Small (pa
       a : Act
       a = act_of s (to_advance xs)
 
-      t : State
-      t = later_inputs xs s.frame.counts.n s
-
-      u : State
-      u = later_outputs xs s.frame.counts.n s.frame.counts.m t
-
-      i : InputsOnly s t
-      i = inputs_only xs s.frame.counts.n s
-
-      o : OutputsOnly t u
-      o = outputs_only xs s.frame.counts.n s.frame.counts.m t
-
       ok : length xs ≡ s.frame.counts.n + s.frame.counts.m → keeps_drift s.frame.drift xs ≡ true → Accepted P s a (outcome accepted (advanced xs s))
       ok h1 h3 = record {
         may = λ x y l m. subst (λ (b : ℕ). (1000 - s.frame.drift) * b ≤ 1000 * cond (ltb y s.frame.counts.m) (get_or xs (s.frame.counts.n + y) 0) 0)
@@ -223,22 +133,20 @@ module _ (inputs outputs : System) (s : State) (f : Framed s) (small : Small (pa
             (subst (λ (b : ℕ). (1000 - s.frame.drift) * get_or xs x 0 ≤ 1000 * b) (sym (ap (λ (b : Bool). cond b (get_or xs (s.frame.counts.n + y) 0) 0) (lt-ltb y s.frame.counts.m m)))
             (keep_each_lem s.frame.drift xs xs h3 (s.frame.counts.n + y) x (omega arith) (omega arith)));
         world = plain_path
-            (ap (λ (l : List Input). (λ (k : ℕ). get_or l k no_input)) o.inputs ∙ fun_ext (inputs_later xs s s.frame.counts.n (let z = f.inputs in let y = small.n_most in omega arith)))
-            (fun_ext (λ j. outputs_later xs s.frame.counts.n t s.frame.counts.m (let z = f.outputs in let y = small.m_most in let w = ap (λ (l : List Output). length l) i.outputs in omega arith) j
-            ∙ ap (λ (l : List Output). later_output (cond (ltb j s.frame.counts.m) (get_or xs (s.frame.counts.n + j) 0) 0) (get_or l j no_output)) i.outputs))
-            (fun_ext (λ p. ap (λ (l : List Operation). cond (eqb p 0) unused (get_or l (p - 1) unused)) (o.table ∙ i.table)))
-            (o.begun ∙ i.begun)
-            (ap (λ (k : ℕ). take k u.log) (o.made ∙ i.made) ∙ ap (λ (l : List Message). take s.made l) (o.log ∙ i.log));
+            (fun_ext (later_at later_input no_input (λ i. get_or xs i 0) s.inputs input_rests s.frame.counts.n (let z = f.inputs in let y = small.n_most in omega arith)))
+            (fun_ext (later_at later_output no_output (λ j. get_or xs (s.frame.counts.n + j) 0) s.outputs output_rests s.frame.counts.m
+            (let z = f.outputs in let y = small.m_most in omega arith)))
+            refl refl refl;
         said = refl;
-        news = ap (λ (k : ℕ). take (k - s.made) (drop s.made u.log)) (o.made ∙ i.made) ∙ none_logged s.made u.log;
-        frame = o.frame ∙ i.frame;
+        news = none_logged s.made s.log;
+        frame = refl;
         framed = record {
-          log = ap (λ (z : Frame). z.log_length) (o.frame ∙ i.frame) ∙ f.log ∙ sym (ap (λ (l : List Message). length l) (o.log ∙ i.log));
-          table = ap (λ (z : Frame). z.table_length) (o.frame ∙ i.frame) ∙ f.table ∙ sym (ap (λ (l : List Operation). length l) (o.table ∙ i.table));
-          made = let z = o.made ∙ i.made in let y = ap (λ (l : List Message). length l) (o.log ∙ i.log) in omega (arith, f.made);
-          begun = let z = o.begun ∙ i.begun in let y = ap (λ (l : List Operation). length l) (o.table ∙ i.table) in omega (arith, f.begun);
-          inputs = ap (λ (l : List Input). length l) o.inputs ∙ i.inputs ∙ f.inputs;
-          outputs = o.outputs ∙ ap (λ (l : List Output). length l) i.outputs ∙ f.outputs;
+          log = f.log;
+          table = f.table;
+          made = f.made;
+          begun = f.begun;
+          inputs = length_later later_input no_input (λ i. get_or xs i 0) s.inputs s.frame.counts.n ∙ f.inputs;
+          outputs = length_later later_output no_output (λ j. get_or xs (s.frame.counts.n + j) 0) s.outputs s.frame.counts.m ∙ f.outputs;
         };
       }
 

@@ -1,9 +1,9 @@
 -- What an operation has gathered, and what its place in the table says of it: a write that sends, and a read, have gathered
 -- what is kept there and are not complete; what has ended is complete. Each act keeps that, and says the end of an
 -- operation where it completes it.
-use Rattle.std.proofs.Common.{◌≡◌, ℕ, ◌+◌, ◌<◌, Bool, true, false, cond, eqb, ◌⊎◌, List, set, replicate, Some, None, Option, sym, refl, ap, ◌∙◌, subst, inl, inr, arith}
+use Rattle.std.proofs.Common.{◌≡◌, ℕ, ◌+◌, ◌<◌, Bool, true, false, eqb, ◌⊎◌, List, set, replicate, Some, None, Option, sym, refl, ap, ◌∙◌, subst, inl, inr, arith}
 use lib.Bits.{bit_or}
-use Rattle.std.proofs.lemmas.Bool.{cond_both, cond-true, eqb-true, eq-eqb, false≢true}
+use Rattle.std.proofs.lemmas.Bool.{cases_eq, cond-false, ne_eqb, cond_both, cond-true, eqb-true, eq-eqb, false≢true}
 use Rattle.quorum.specs.declared.member_set.MemberSet.{MemberSet}
 use Rattle.quorum.specs.Sets.{has, full, joined, set_of}
 use Rattle.quorum.specs.Systems.{System, Lawful}
@@ -14,16 +14,16 @@ use Rattle.numbers.specs.Numbers.{none}
 use Rattle.rules.specs.Operation.{Operation, unused, asking, sending, reading, ended, first_asking, first_reading, named_by, counts, hears_named, is_written, hears_pair, is_read}
 use Rattle.rules.specs.Reaction.{Reaction}
 use Rattle.rules.proofs.Reactions.{every_reaction}
-use Rattle.rules.specs.Said.{write_ended, read_ended}
+use Rattle.rules.specs.Said.{Said, write_ended, read_ended}
 use Rattle.guarantee.specs.Endings.{is_refusal, also_hears, hears_names, hears_answer}
 use Rattle.guarantee.proofs.CallEffects.{says_of}
 use Rattle.guarantee.proofs.RangeFacts.{fits_pair}
 use Rattle.guarantee.proofs.Gathered.{written_stays_written, read_stays_read}
 use Rattle.guarantee.proofs.Kept.{Begun, Wrote, Reads, MsgOk, Small, Kept, May}
-use Rattle.guarantee.proofs.Operations.{moved_op, named_none}
+use Rattle.guarantee.proofs.Operations.{named_none}
 use Rattle.guarantee.proofs.Sets.{has_none, of_set_of}
-use Rattle.guarantee.proofs.Words.{at_miss, In, all_at}
-use Rattle.guarantee.proofs.PlainState.{Params, PlainState, Act, ticks, writes, reads, hears, run, reaction}
+use Rattle.guarantee.proofs.Words.{never, at, at_cases, at_miss, In, all_at}
+use Rattle.guarantee.proofs.PlainState.{Params, PlainState, Act, ticks, writes, reads, hears, run, reaction, answers_to}
 
 -- what an act delivers
 abbrev pub heard_by : Act → Option Message
@@ -31,9 +31,6 @@ heard_by (ticks x y) = None
 heard_by (writes o x) = None
 heard_by (reads o) = None
 heard_by (hears m) = Some m
-
-never : {A : Type 0} → ◌≡◌ {A = ℕ} 0 1 → A
-never h = absurd (omega arith)
 
 -- two tests that disagree
 pub both : {A : Type 0} {b : Bool} → b ≡ true → b ≡ false → A
@@ -122,6 +119,51 @@ module _ (P : Params) (W : PlainState) (k : Kept P W) where
       let m = (all_at (MsgOk P W) (ReadAnswer j p v x) W.sent k.msgs h).1 in
       (m.0, m.1.0, m.1.1, (all_at (MsgOk P W) (ReadRequest p m.1.0 m.0) W.sent k.msgs m.1.1).1)
 
+-- ---- an operation and what was gathered for it, of any kind
+
+module _ (P : Params) (W : PlainState) (p : ℕ) (b : Begun W p) {G : Type 0} (hear : Message → G → G) (g : G)
+    (others : (m : Message) → (answers_to m ≡ p → ⊥) → hear m g ≡ g) where
+  -- no message but an answer to p adds anything
+  unheard : (m : Message) → answers_to m ≡ 0 → hear m g ≡ g
+  unheard m e = others m (λ f. let z = b.0 in omega arith)
+
+  -- the place of p agrees with what is gathered after each act, if it does so after each answer to p
+  module _ (Place : G → Operation → Type 0) (h : Place g (W.op p))
+      (heard : (m : Message) → May P (hears m) W → answers_to m ≡ p → Place (hear m g) (reaction P m (W.op p)).next) where
+    answer_next : (m : Message) → May P (hears m) W → Place (hear m g) (at (answers_to m) (reaction P m (W.op (answers_to m))).next W.op p)
+    answer_next m may = at_cases (Place (hear m g)) (answers_to m) p _ W.op
+        (λ e. subst (λ (q : ℕ). Place (hear m g) (reaction P m (W.op q)).next) (sym e) (heard m may e))
+        (λ n. subst (λ (z : G). Place z (W.op p)) (sym (others m n)) h)
+
+    pub place_next : (a : Act) → May P a W → Place (also_hears hear (heard_by a) g) ((run P a W).op p)
+    place_next (ticks x y) m = h
+    place_next (writes o x) m =
+        subst (Place g) (sym (at_miss (W.begun + 1) p (asking (first_asking (W.begun + 1) o x)) W.op (λ d. let z = b.1 in omega arith))) h
+    place_next (reads o) m =
+        subst (Place g) (sym (at_miss (W.begun + 1) p (reading (first_reading (W.begun + 1) o)) W.op (λ d. let z = b.1 in omega arith))) h
+    place_next (hears (ClockAnswer i q c)) m = answer_next (ClockAnswer i q c) m
+    place_next (hears (WriteAnswer i q s)) m = answer_next (WriteAnswer i q s) m
+    place_next (hears (ReadAnswer j q v x)) m = answer_next (ReadAnswer j q v x) m
+    place_next (hears x) m = subst (λ (z : G). Place z (W.op p)) (sym (unheard x refl)) h
+
+  -- an act that makes a test of it true says so, if each answer to p does
+  module _ (full : G → Bool) (f : full g ≡ false) (Ended : Said → Type 0)
+      (heard : (m : Message) → May P (hears m) W → answers_to m ≡ p → full (hear m g) ≡ true → Ended (reaction P m (W.op p)).said) where
+    answer_said : (m : Message) → May P (hears m) W → full (hear m g) ≡ true → Ended (reaction P m (W.op (answers_to m))).said
+    answer_said m may t = elim (cases_eq (answers_to m) p) [
+      | inl e ↦ subst (λ (q : ℕ). Ended (reaction P m (W.op q)).said) (sym e) (heard m may e t)
+      | inr n ↦ both (sym (ap full (others m n)) ∙ t) f
+    ]
+
+    pub place_said : (a : Act) → May P a W → full (also_hears hear (heard_by a) g) ≡ true → Ended (says_of P a W)
+    place_said (ticks x y) m t = both t f
+    place_said (writes o x) m t = both t f
+    place_said (reads o) m t = both t f
+    place_said (hears (ClockAnswer i q c)) m t = answer_said (ClockAnswer i q c) m t
+    place_said (hears (WriteAnswer i q s)) m t = answer_said (WriteAnswer i q s) m t
+    place_said (hears (ReadAnswer j q v x)) m t = answer_said (ReadAnswer j q v x) m t
+    place_said (hears x) m t = both (sym (ap full (unheard x refl)) ∙ t) f
+
 -- ---- the place of a write
 
 abbrev pub WritePlace : System → System → List MemberSet → Operation → Type 0
@@ -139,8 +181,12 @@ names_from p N (hears (WriteAnswer i q s)) = cond_both (eqb q p) (more i s N) N
     (λ e. inr (i, s, ap (λ (z : ℕ). hears (WriteAnswer i z s)) (eqb-true q p e))) (λ _. inl refl)
 names_from p N a = inl refl
 
-pub names_more : (p i : ℕ) (s : MemberSet) (N : List MemberSet) → hears_names p (WriteAnswer i p s) N ≡ more i s N
-names_more p i s N = cond-true (eqb p p) (more i s N) N (eq-eqb p p refl)
+pub names_more : (p i q : ℕ) (s : MemberSet) (N : List MemberSet) → q ≡ p → hears_names p (WriteAnswer i q s) N ≡ more i s N
+names_more p i q s N e = cond-true (eqb q p) (more i s N) N (eq-eqb q p e)
+
+names_others : (p : ℕ) (N : List MemberSet) (m : Message) → (answers_to m ≡ p → ⊥) → hears_names p m N ≡ N
+names_others p N (WriteAnswer i q s) n = cond-false (eqb q p) (more i s N) N (ne_eqb q p n)
+names_others p N m n = refl
 
 module _ (P : Params) (il : Lawful P.inputs) (ol : Lawful P.outputs) where
   abbrev ForWrite : List MemberSet → Operation → Type 0
@@ -175,56 +221,45 @@ module _ (P : Params) (il : Lawful P.inputs) (ol : Lawful P.outputs) where
   pub written_next : (p : ℕ) (N : List MemberSet) (a : Act) → Written N ≡ true → Written (also_hears (hears_names p) (heard_by a) N) ≡ true
   written_next p N a h = elim (names_from p N a) [
     | inl e ↦ ap (λ (M : List MemberSet). Written M) e ∙ h
-    | inr e ↦ ap (λ (c : Act). Written (also_hears (hears_names p) (heard_by c) N)) e.2 ∙ ap (λ (M : List MemberSet). Written M) (names_more p e.0 e.1 N)
+    | inr e ↦ ap (λ (c : Act). Written (also_hears (hears_names p) (heard_by c) N)) e.2 ∙ ap (λ (M : List MemberSet). Written M) (names_more p e.0 p e.1 N refl)
         ∙ stays_written P.inputs P.outputs il ol e.0 e.1 N h
   ]
 
+  says_write : (N : List MemberSet) (i q : ℕ) (s : MemberSet) (y : Operation) (o : ℕ) (v : Version) (x : ℕ) → Wrote y o v x → ForWrite N y → Written N ≡ false
+      → Written (more i s N) ≡ true → (v : ℕ) × (x : ℕ) × ((reaction P (WriteAnswer i q s) y).said ≡ write_ended q v x)
+  says_write N i q s (sending w) o v x g h f t = (
+    w.version.0,
+    w.value,
+    ap (λ (r : Reaction). r.said) (cond-true (is_written P.inputs P.outputs (hears_named i s w)) _ _
+        (subst (λ (M : List MemberSet). Written (more i s M) ≡ true) (sym h.0) t)),
+  )
+  says_write N i q s ended o v x g h f t = both h f
+  says_write N i q s y o v x g h f t = absurd g
+
   module _ (W : PlainState) (k : Kept P W) (p : ℕ) (b : Begun W p) (N : List MemberSet) (h : ForWrite N (W.op p)) where
     pub write_next : (a : Act) → May P a W → ForWrite (also_hears (hears_names p) (heard_by a) N) ((run P a W).op p)
-    write_next (writes o x) m =
-        subst (ForWrite N) (sym (at_miss (W.begun + 1) p (asking (first_asking (W.begun + 1) o x)) W.op (λ d. let z = b.1 in omega arith))) h
-    write_next (reads o) m =
-        subst (ForWrite N) (sym (at_miss (W.begun + 1) p (reading (first_reading (W.begun + 1) o)) W.op (λ d. let z = b.1 in omega arith))) h
-    write_next (hears (ClockAnswer i q c)) m =
-        moved_op (ForWrite N) q _ W.op (other_write N (ClockAnswer i q c) (W.op q) (λ _ _ _ e. never (cc))) p h
-    write_next (hears (WriteAnswer i q s)) m = go (eqb q p) refl
+    write_next = place_next P W p b (hears_names p) N (names_others p N) ForWrite h heard
       where
-        go : (t : Bool) → eqb q p ≡ t → ForWrite (cond t (more i s N) N) (cond t (reaction P (WriteAnswer i q s) (W.op q)).next (W.op p))
-        go true e =
+        heard : (m : Message) → May P (hears m) W → answers_to m ≡ p → ForWrite (hears_names p m N) (reaction P m (W.op p)).next
+        heard (WriteAnswer i q s) m e =
             let r = asked_write P W k i q s m.0 in
-            named_write N i q s (W.op q) r.0 r.1 r.2 r.5 (subst (λ (z : ℕ). ForWrite N (W.op z)) (sym (eqb-true q p e)) h)
-        go false e = h
-    write_next (hears (ReadAnswer j q v x)) m =
-        moved_op (ForWrite N) q _ W.op (other_write N (ReadAnswer j q v x) (W.op q) (λ _ _ _ e. never (cc))) p h
-    write_next a m = h
-
-    says_write : (i : ℕ) (s : MemberSet) (y : Operation) (o : ℕ) (v : Version) (x : ℕ) → Wrote y o v x → ForWrite N y → Written N ≡ false
-        → Written (more i s N) ≡ true → (v : ℕ) × (x : ℕ) × ((reaction P (WriteAnswer i p s) y).said ≡ write_ended p v x)
-    says_write i s (sending w) o v x g h f t = (
-      w.version.0,
-      w.value,
-      ap (λ (r : Reaction). r.said) (cond-true (is_written P.inputs P.outputs (hears_named i s w)) _ _
-          (subst (λ (M : List MemberSet). Written (more i s M) ≡ true) (sym h.0) t)),
-    )
-    says_write i s ended o v x g h f t = both h f
-    says_write i s y o v x g h f t = absurd g
+            subst (λ (M : List MemberSet). ForWrite M (reaction P (WriteAnswer i q s) (W.op p)).next) (sym (names_more p i q s N e))
+            (named_write N i q s (W.op p) r.0 r.1 r.2 (subst (λ (z : ℕ). Wrote (W.op z) r.0 r.1 r.2) e r.5) h)
+        heard m may e = other_write N m (W.op p) (λ _ _ _ d. never (cc)) h
 
     pub write_said : (a : Act) → May P a W → Written N ≡ false → Written (also_hears (hears_names p) (heard_by a) N) ≡ true
         → (v : ℕ) × (x : ℕ) × (says_of P a W ≡ write_ended p v x)
-    write_said (hears (WriteAnswer i q s)) m f t = go (eqb q p) refl t
+    write_said a may f t =
+        place_said P W p b (hears_names p) N (names_others p N) Written f (λ r. (v : ℕ) × (x : ℕ) × (r ≡ write_ended p v x)) heard a may t
       where
-        here : (q : ℕ) → q ≡ p → In (WriteAnswer i q s) W.sent → Written (more i s N) ≡ true
-            → (v : ℕ) × (x : ℕ) × ((reaction P (WriteAnswer i q s) (W.op q)).said ≡ write_ended p v x)
-        here q e sent t =
-            let d = subst (λ (z : ℕ). In (WriteAnswer i z s) W.sent) e sent in
-            let r = asked_write P W k i p s d in
-            subst (λ (z : ℕ). (v : ℕ) × (x : ℕ) × ((reaction P (WriteAnswer i z s) (W.op z)).said ≡ write_ended p v x)) (sym e)
-            (says_write i s (W.op p) r.0 r.1 r.2 r.5 h f t)
-
-        go : (c : Bool) → eqb q p ≡ c → Written (cond c (more i s N) N) ≡ true → (v : ℕ) × (x : ℕ) × ((reaction P (WriteAnswer i q s) (W.op q)).said ≡ write_ended p v x)
-        go true e t = here q (eqb-true q p e) m.0 t
-        go false e t = both t f
-    write_said a m f t = both t f
+        heard : (m : Message) → May P (hears m) W → answers_to m ≡ p → Written (hears_names p m N) ≡ true
+            → (v : ℕ) × (x : ℕ) × ((reaction P m (W.op p)).said ≡ write_ended p v x)
+        heard (WriteAnswer i q s) m e t =
+            let r = asked_write P W k i q s m.0 in
+            let y = says_write N i q s (W.op p) r.0 r.1 r.2 (subst (λ (z : ℕ). Wrote (W.op z) r.0 r.1 r.2) e r.5) h f
+            (sym (ap (λ (M : List MemberSet). Written M) (names_more p i q s N e)) ∙ t) in
+            (y.0, y.1, y.2 ∙ ap (λ (z : ℕ). write_ended z y.0 y.1) e)
+        heard m may e t = both t f
 
 -- ---- the place of a read
 
@@ -243,8 +278,12 @@ answers_from p A (hears (ReadAnswer j q v x)) = cond_both (eqb q p) (joined A j)
     (λ e. inr (j, v, x, ap (λ (z : ℕ). hears (ReadAnswer j z v x)) (eqb-true q p e))) (λ _. inl refl)
 answers_from p A a = inl refl
 
-pub answers_more : (p j : ℕ) (v : Version) (x A : ℕ) → hears_answer p (ReadAnswer j p v x) A ≡ joined A j
-answers_more p j v x A = cond-true (eqb p p) (joined A j) A (eq-eqb p p refl)
+pub answers_more : (p j q : ℕ) (v : Version) (x A : ℕ) → q ≡ p → hears_answer p (ReadAnswer j q v x) A ≡ joined A j
+answers_more p j q v x A e = cond-true (eqb q p) (joined A j) A (eq-eqb q p e)
+
+answers_others : (p A : ℕ) (m : Message) → (answers_to m ≡ p → ⊥) → hears_answer p m A ≡ A
+answers_others p A (ReadAnswer j q v x) n = cond-false (eqb q p) (joined A j) A (ne_eqb q p n)
+answers_others p A m n = refl
 
 module _ (P : Params) (small : Small P) (il : Lawful P.inputs) (ol : Lawful P.outputs) where
   abbrev ForRead : ℕ → Operation → Type 0
@@ -281,54 +320,43 @@ module _ (P : Params) (small : Small P) (il : Lawful P.inputs) (ol : Lawful P.ou
     | inl e ↦ ap (λ (B : ℕ). Answered B) e ∙ h
     | inr e ↦
         let n = (fits_pair P.counts e.0 p e.1 e.2 (subst (λ (c : Act). May P c W) e.3 m).1).0 in
-        ap (λ (c : Act). Answered (also_hears (hears_answer p) (heard_by c) A)) e.3 ∙ ap (λ (B : ℕ). Answered B) (answers_more p e.0 e.1 e.2 A)
+        ap (λ (c : Act). Answered (also_hears (hears_answer p) (heard_by c) A)) e.3 ∙ ap (λ (B : ℕ). Answered B) (answers_more p e.0 p e.1 e.2 A refl)
         ∙ stays_answered P.inputs P.outputs il ol e.0 A (let z = small.m_is in omega arith) h
   ]
 
+  says_read : (A j q : ℕ) (v : Version) (x : ℕ) (y : Operation) (o : ℕ) → Reads y o → ForRead A y → Answered A ≡ false
+      → Answered (joined A j) ≡ true → (u : ℕ) × (z : ℕ) × ((reaction P (ReadAnswer j q v x) y).said ≡ read_ended q u z)
+  says_read A j q v x (reading r) o g h f t = (
+    (hears_pair j v x r).version.0,
+    (hears_pair j v x r).value,
+    ap (λ (z : Reaction). z.said) (cond-true (is_read P.outputs (hears_pair j v x r)) _ _
+        (subst (λ (B : ℕ). Answered (joined B j) ≡ true) (sym h.0) t)),
+  )
+  says_read A j q v x ended o g h f t = both h f
+  says_read A j q v x y o g h f t = absurd g
+
   module _ (W : PlainState) (k : Kept P W) (p : ℕ) (b : Begun W p) (A : ℕ) (h : ForRead A (W.op p)) where
     pub read_next : (a : Act) → May P a W → ForRead (also_hears (hears_answer p) (heard_by a) A) ((run P a W).op p)
-    read_next (writes o x) m =
-        subst (ForRead A) (sym (at_miss (W.begun + 1) p (asking (first_asking (W.begun + 1) o x)) W.op (λ d. let z = b.1 in omega arith))) h
-    read_next (reads o) m =
-        subst (ForRead A) (sym (at_miss (W.begun + 1) p (reading (first_reading (W.begun + 1) o)) W.op (λ d. let z = b.1 in omega arith))) h
-    read_next (hears (ClockAnswer i q c)) m =
-        moved_op (ForRead A) q _ W.op (other_read A (ClockAnswer i q c) (W.op q) (λ _ _ _ _ e. never (cc))) p h
-    read_next (hears (WriteAnswer i q s)) m =
-        moved_op (ForRead A) q _ W.op (other_read A (WriteAnswer i q s) (W.op q) (λ _ _ _ _ e. never (cc))) p h
-    read_next (hears (ReadAnswer j q v x)) m = go (eqb q p) refl
+    read_next = place_next P W p b (hears_answer p) A (answers_others p A) ForRead h heard
       where
-        go : (t : Bool) → eqb q p ≡ t → ForRead (cond t (joined A j) A) (cond t (reaction P (ReadAnswer j q v x) (W.op q)).next (W.op p))
-        go true e =
+        heard : (m : Message) → May P (hears m) W → answers_to m ≡ p → ForRead (hears_answer p m A) (reaction P m (W.op p)).next
+        heard (ReadAnswer j q v x) m e =
             let r = asked_read P W k j q v x m.0 in
             let l = (fits_pair P.counts j q v x m.1).0 in
-            pair_read A j q v x (W.op q) r.0 r.3 (let z = small.m_is in omega arith) (subst (λ (z : ℕ). ForRead A (W.op z)) (sym (eqb-true q p e)) h)
-        go false e = h
-    read_next a m = h
-
-    says_read : (j : ℕ) (v : Version) (x : ℕ) (y : Operation) (o : ℕ) → Reads y o → ForRead A y → Answered A ≡ false
-        → Answered (joined A j) ≡ true → (u : ℕ) × (z : ℕ) × ((reaction P (ReadAnswer j p v x) y).said ≡ read_ended p u z)
-    says_read j v x (reading r) o g h f t = (
-      (hears_pair j v x r).version.0,
-      (hears_pair j v x r).value,
-      ap (λ (z : Reaction). z.said) (cond-true (is_read P.outputs (hears_pair j v x r)) _ _
-          (subst (λ (B : ℕ). Answered (joined B j) ≡ true) (sym h.0) t)),
-    )
-    says_read j v x ended o g h f t = both h f
-    says_read j v x y o g h f t = absurd g
+            subst (λ (B : ℕ). ForRead B (reaction P (ReadAnswer j q v x) (W.op p)).next) (sym (answers_more p j q v x A e))
+            (pair_read A j q v x (W.op p) r.0 (subst (λ (z : ℕ). Reads (W.op z) r.0) e r.3) (let z = small.m_is in omega arith) h)
+        heard m may e = other_read A m (W.op p) (λ _ _ _ _ d. never (cc)) h
 
     pub read_said : (a : Act) → May P a W → Answered A ≡ false → Answered (also_hears (hears_answer p) (heard_by a) A) ≡ true
         → (u : ℕ) × (z : ℕ) × (says_of P a W ≡ read_ended p u z)
-    read_said (hears (ReadAnswer j q v x)) m f t = go (eqb q p) refl t
+    read_said a may f t =
+        place_said P W p b (hears_answer p) A (answers_others p A) Answered f (λ r. (u : ℕ) × (z : ℕ) × (r ≡ read_ended p u z)) heard a may t
       where
-        here : (q : ℕ) → q ≡ p → In (ReadAnswer j q v x) W.sent → Answered (joined A j) ≡ true
-            → (u : ℕ) × (z : ℕ) × ((reaction P (ReadAnswer j q v x) (W.op q)).said ≡ read_ended p u z)
-        here q e sent t =
-            let d = subst (λ (z : ℕ). In (ReadAnswer j z v x) W.sent) e sent in
-            let r = asked_read P W k j p v x d in
-            subst (λ (n : ℕ). (u : ℕ) × (z : ℕ) × ((reaction P (ReadAnswer j n v x) (W.op n)).said ≡ read_ended p u z)) (sym e)
-            (says_read j v x (W.op p) r.0 r.3 h f t)
-
-        go : (c : Bool) → eqb q p ≡ c → Answered (cond c (joined A j) A) ≡ true → (u : ℕ) × (z : ℕ) × ((reaction P (ReadAnswer j q v x) (W.op q)).said ≡ read_ended p u z)
-        go true e t = here q (eqb-true q p e) m.0 t
-        go false e t = both t f
-    read_said a m f t = both t f
+        heard : (m : Message) → May P (hears m) W → answers_to m ≡ p → Answered (hears_answer p m A) ≡ true
+            → (u : ℕ) × (z : ℕ) × ((reaction P m (W.op p)).said ≡ read_ended p u z)
+        heard (ReadAnswer j q v x) m e t =
+            let r = asked_read P W k j q v x m.0 in
+            let y = says_read A j q v x (W.op p) r.0 (subst (λ (z : ℕ). Reads (W.op z) r.0) e r.3) h f
+            (sym (ap Answered (answers_more p j q v x A e)) ∙ t) in
+            (y.0, y.1, y.2 ∙ ap (λ (z : ℕ). read_ended z y.0 y.1) e)
+        heard m may e t = both t f

@@ -1,5 +1,5 @@
 -- What an answer says of the act: which acts end a write, end a read, begin an operation, or log write requests.
-use Rattle.std.proofs.Common.{◌≡◌, ℕ, ◌+◌, true, List, [], ◌∷◌, sym, refl, ap, subst, inl, inr, arith}
+use Rattle.std.proofs.Common.{◌≡◌, ℕ, ◌+◌, true, List, [], ◌∷◌, sym, refl, ap, subst, inl, inr}
 use Rattle.quorum.specs.declared.member_set.MemberSet.{MemberSet}
 use Rattle.rules.specs.declared.message.Message.{Message}
 use Rattle.rules.specs.declared.message.Message.TheVariants.{ClockQuestion, ClockAnswer, WriteRequest, WriteAnswer, ReadRequest, ReadAnswer, RenewalRequest, RenewalAnswer, Invalidation, InvalidationAnswer}
@@ -12,11 +12,8 @@ use Rattle.guarantee.proofs.CallEffects.{says_of, news_of}
 use Rattle.guarantee.proofs.InputMoves as Ins
 use Rattle.guarantee.proofs.OutputMoves as Outs
 use Rattle.guarantee.proofs.Reacting.{sends_requests}
-use Rattle.guarantee.proofs.Words.{In, All, all_at, each_all, each_any}
-use Rattle.guarantee.proofs.PlainState.{Params, PlainState, Act, ticks, writes, reads, hears, run, reaction, answered}
-
-never : {A : Type 0} → ◌≡◌ {A = ℕ} 0 1 → A
-never h = absurd (omega arith)
+use Rattle.guarantee.proofs.Words.{never, In, All, all_at, each_all, each_any}
+use Rattle.guarantee.proofs.PlainState.{Params, PlainState, Act, ticks, writes, reads, hears, run, reaction, answers_to}
 
 -- ---- a write that ends
 
@@ -31,8 +28,8 @@ pub record WriteEnds (P : Params) (W : PlainState) (a : Act) (p w y : ℕ) : Typ
   pub value : write.value ≡ y
 
 module _ (P : Params) (W : PlainState) (p w y : ℕ) where
-  reaction_ends_write : (m : Message) (x : Operation) → W.op (answered m) ≡ x → (reaction P m x).said ≡ write_ended p w y → WriteEnds P W (hears m) p w y
-  reaction_ends_write = every_reaction P.inputs P.outputs (λ m x r. W.op (answered m) ≡ x → r.said ≡ write_ended p w y → WriteEnds P W (hears m) p w y) (record {
+  reaction_ends_write : (m : Message) (x : Operation) → W.op (answers_to m) ≡ x → (reaction P m x).said ≡ write_ended p w y → WriteEnds P W (hears m) p w y
+  reaction_ends_write = every_reaction P.inputs P.outputs (λ m x r. W.op (answers_to m) ≡ x → r.said ≡ write_ended p w y → WriteEnds P W (hears m) p w y) (record {
     stays = λ m x n e h. never (cc);
     asks = λ i q c a t e h. never (cc);
     gets = λ i q c a t e h. never (cc);
@@ -71,8 +68,8 @@ pub record ReadEnds (P : Params) (W : PlainState) (a : Act) (p w y : ℕ) : Type
   pub value : (hears_pair from pair_version pair_value read).value ≡ y
 
 module _ (P : Params) (W : PlainState) (p w y : ℕ) where
-  reaction_ends_read : (m : Message) (x : Operation) → W.op (answered m) ≡ x → (reaction P m x).said ≡ read_ended p w y → ReadEnds P W (hears m) p w y
-  reaction_ends_read = every_reaction P.inputs P.outputs (λ m x r. W.op (answered m) ≡ x → r.said ≡ read_ended p w y → ReadEnds P W (hears m) p w y) (record {
+  reaction_ends_read : (m : Message) (x : Operation) → W.op (answers_to m) ≡ x → (reaction P m x).said ≡ read_ended p w y → ReadEnds P W (hears m) p w y
+  reaction_ends_read = every_reaction P.inputs P.outputs (λ m x r. W.op (answers_to m) ≡ x → r.said ≡ read_ended p w y → ReadEnds P W (hears m) p w y) (record {
     stays = λ m x n e h. never (cc);
     asks = λ i q c a t e h. never (cc);
     gets = λ i q c a t e h. never (cc);
@@ -121,8 +118,8 @@ module _ (P : Params) (W : PlainState) (p i o : ℕ) (v : Version) (x : ℕ) whe
   nowhere : (new : List Message) → All NoRequest new → In (WriteRequest p i o v x) new → ⊥
   nowhere new a h = all_at NoRequest (WriteRequest p i o v x) new a h
 
-  reaction_gets : (m : Message) (y : Operation) → W.op (answered m) ≡ y → In (WriteRequest p i o v x) (reaction P m y).sends → GetsVersion P W (hears m) p o v x
-  reaction_gets = every_reaction P.inputs P.outputs (λ m y r. W.op (answered m) ≡ y → In (WriteRequest p i o v x) r.sends → GetsVersion P W (hears m) p o v x) (record {
+  reaction_gets : (m : Message) (y : Operation) → W.op (answers_to m) ≡ y → In (WriteRequest p i o v x) (reaction P m y).sends → GetsVersion P W (hears m) p o v x
+  reaction_gets = every_reaction P.inputs P.outputs (λ m y r. W.op (answers_to m) ≡ y → In (WriteRequest p i o v x) r.sends → GetsVersion P W (hears m) p o v x) (record {
     stays = λ m y n e h. absurd h;
     asks = λ k q c a t e h. absurd h;
     gets = λ k q c a t e h. let w = gets_version (hears_clock k c a) in

@@ -1,13 +1,11 @@
 -- Each accepted call takes nothing back, and keeps what is kept.
 use Rattle.std.proofs.Common.{◌≡◌, ℕ, ◌+◌, ◌<◌, ◌≤◌, ◌⊎◌, sym, refl, ap, subst, inl, inr, arith}
-use Rattle.numbers.specs.declared.epoch.Epoch.{Epoch}
 use Rattle.rules.specs.declared.kept.Held.{Held}
 use Rattle.rules.specs.declared.message.Message.{Message}
 use Rattle.rules.specs.declared.message.Message.TheVariants.{ClockQuestion, ClockAnswer, WriteRequest, WriteAnswer, ReadRequest, ReadAnswer, RenewalRequest, RenewalAnswer, Invalidation, InvalidationAnswer}
 use Rattle.rules.specs.declared.renewal.Renewal.{Renewal}
 use Rattle.rules.specs.declared.renewal.Renewed.{Renewed}
 use Rattle.rules.specs.declared.pairs.Pairs.{Pairs}
-use Rattle.numbers.specs.declared.time.Time.{Time}
 use Rattle.numbers.specs.declared.version.Version.{Version}
 use Rattle.rules.specs.Input.{Input, held, after_write, after_renewal, acknowledges_all}
 use Rattle.rules.specs.Lists.{list_of}
@@ -104,18 +102,11 @@ module _ (P : Params) (small : Small P) (W : PlainState) (k : Kept P W) where
     clocked = λ c. c;
     held = λ o. inl (refl, refl);
   }
-  inputs_step (writes o x) h i = input_same W (W.inp i)
-  inputs_step (reads o) h i = input_same W (W.inp i)
   inputs_step (hears (ClockQuestion p a)) h i = one_input a (W.inp a) (input_same W (W.inp a)) i
-  inputs_step (hears (ClockAnswer a p c)) h i = input_same W (W.inp i)
   inputs_step (hears (WriteRequest p a o v x)) h i = one_input a (after_write P.counts.m o v x (W.inp a)) (input_write p a o v x h.0) i
-  inputs_step (hears (WriteAnswer a p t)) h i = input_same W (W.inp i)
-  inputs_step (hears (ReadRequest p b o)) h i = input_same W (W.inp i)
-  inputs_step (hears (ReadAnswer b p v x)) h i = input_same W (W.inp i)
   inputs_step (hears (RenewalRequest b a r)) h i = one_input a (after_renewal P.lease b r (W.inp a)) (input_renewal b r (W.inp a)) i
-  inputs_step (hears (RenewalAnswer a b y)) h i = input_same W (W.inp i)
-  inputs_step (hears (Invalidation a b o v)) h i = input_same W (W.inp i)
   inputs_step (hears (InvalidationAnswer b a l)) h i = one_input a (acknowledges_all b (list_of l) (W.inp a)) (input_ack b l (W.inp a)) i
+  inputs_step a h i = input_same W (W.inp i)
 
   output_answer : (a b : ℕ) (y : Renewed)
       → In (RenewalAnswer a b y) W.sent → (O : Output)
@@ -141,21 +132,13 @@ module _ (P : Params) (small : Small P) (W : PlainState) (k : Kept P W) where
     shape = λ s. record { newest = s.newest; links = s.links; copies = s.copies };
     newest = λ o. inl refl;
   }
-  outputs_step (writes o x) h j = output_same W (W.out j)
-  outputs_step (reads o) h j = output_same W (W.out j)
-  outputs_step (hears (ClockQuestion p a)) h j = output_same W (W.out j)
-  outputs_step (hears (ClockAnswer a p c)) h j = output_same W (W.out j)
-  outputs_step (hears (WriteRequest p a o v x)) h j = output_same W (W.out j)
-  outputs_step (hears (WriteAnswer a p t)) h j = output_same W (W.out j)
   outputs_step (hears (ReadRequest p b o)) h j = one_output b (W.out b) (output_same W (W.out b)) j
-  outputs_step (hears (ReadAnswer b p v x)) h j = output_same W (W.out j)
-  outputs_step (hears (RenewalRequest b a r)) h j = output_same W (W.out j)
   outputs_step (hears (RenewalAnswer a b y)) h j =
       one_output b (after_answer P.drift a y (W.out b)) (output_answer a b y h.0 (W.out b)) j
   outputs_step (hears (Invalidation a b o v)) h j =
       one_output b (after_invalidation a o v (W.out b))
       (record { shape = Outs.shape_invalidation a o v (W.out b); newest = λ q. inl (Outs.newest_invalidation a o v (W.out b) q) }) j
-  outputs_step (hears (InvalidationAnswer b a l)) h j = output_same W (W.out j)
+  outputs_step a h j = output_same W (W.out j)
 
   -- ---- nothing is taken back
 

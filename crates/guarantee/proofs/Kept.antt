@@ -1,13 +1,13 @@
 -- What every world of a story keeps: of each channel, each message made, each operation and each server.
-use Rattle.std.proofs.Common.{◌≡◌, ℕ, ◌-◌, ◌*◌, ◌/◌, ◌<◌, ◌≤◌, true, ◌⊎◌, List, length, inl, inr, arith}
+use Rattle.std.proofs.Common.{◌≡◌, ℕ, ◌-◌, ◌*◌, ◌/◌, ◌<◌, ◌≤◌, true, ◌⊎◌, List, inl, inr, arith}
 use Rattle.quorum.specs.declared.member_set.MemberSet.{MemberSet}
 use Rattle.quorum.specs.Sets.{has}
 use Rattle.rules.specs.declared.message.Message.{Message}
-use Rattle.rules.specs.declared.message.Message.TheVariants.{ClockQuestion, ClockAnswer, WriteRequest, WriteAnswer, ReadRequest, ReadAnswer, RenewalRequest, RenewalAnswer, Invalidation, InvalidationAnswer}
+use Rattle.rules.specs.declared.message.Message.TheVariants.{ClockQuestion, ClockAnswer, WriteRequest, WriteAnswer, ReadRequest, ReadAnswer, RenewalAnswer}
 use Rattle.numbers.specs.declared.version.Version.{Version}
 use Rattle.rules.specs.Input.{held}
 use Rattle.numbers.specs.Numbers.{starting, clock_of}
-use Rattle.rules.specs.Operation.{Operation, unused, asking, sending, reading, ended, Asking, Sending, Reading, named_by}
+use Rattle.rules.specs.Operation.{Operation, asking, sending, reading, ended, Asking, Sending, Reading, named_by}
 use Rattle.rules.specs.Output.{newest_of}
 use Rattle.rules.specs.Ranges.{numbers_fit}
 use Rattle.rules.specs.Renewals.{asks_object}
@@ -41,19 +41,15 @@ Genuine W o v x = ((v ≡ starting) × (x ≡ 0)) ⊎ ((p : ℕ) × Requested W 
 
 -- an operation that has sent write requests is that write, or has ended
 abbrev pub Wrote : Operation → ℕ → Version → ℕ → Type 0
-Wrote unused o v x = ⊥
-Wrote (asking a) o v x = ⊥
 Wrote (sending w) o v x = (w.object ≡ o) × (w.version ≡ v) × (w.value ≡ x)
-Wrote (reading r) o v x = ⊥
 Wrote ended o v x = Unit {0}
+Wrote y o v x = ⊥
 
 -- an operation that has sent read requests is that read, or has ended
 abbrev pub Reads : Operation → ℕ → Type 0
-Reads unused o = ⊥
-Reads (asking a) o = ⊥
-Reads (sending w) o = ⊥
 Reads (reading r) o = r.object ≡ o
 Reads ended o = Unit {0}
+Reads y o = ⊥
 
 -- what a write leaves at an input server for an output server that it calls shut out: the fence, and the clock taken
 pub record Stands (P : Params) (W : PlainState) (i j o w : ℕ) : Type 0 where
@@ -85,10 +81,8 @@ MsgOk P W (WriteAnswer i p t) =
     × ((j : ℕ) → has t.0 j ≡ true → i < P.counts.n → j < P.counts.m → Stands P W i j o v.0))
 MsgOk P W (ReadRequest p j o) = Begun W p × Reads (W.op p) o
 MsgOk P W (ReadAnswer j p v x) = Begun W p × ((o : ℕ) × AskedFor W p o × Genuine W o v x)
-MsgOk P W (RenewalRequest j i r) = Unit {0}
 MsgOk P W (RenewalAnswer i j y) = asks_object y.renewal.parts ≡ true → Genuine W y.renewal.object y.version y.value
-MsgOk P W (Invalidation i j o v) = Unit {0}
-MsgOk P W (InvalidationAnswer j i l) = Unit {0}
+MsgOk P W m = Unit {0}
 
 pub record AskingOk (W : PlainState) (p : ℕ) (a : Asking) : Type 0 where
   pub own : a.operation ≡ p
@@ -105,11 +99,10 @@ pub record ReadingOk (W : PlainState) (p : ℕ) (r : Reading) : Type 0 where
   pub genuine : (r.version.0 ≡ 0) ⊎ Genuine W r.object r.version r.value
 
 abbrev pub OpOk : Params → PlainState → ℕ → Operation → Type 0
-OpOk P W p unused = Unit {0}
 OpOk P W p (asking a) = AskingOk W p a
 OpOk P W p (sending w) = SendingOk P W p w
 OpOk P W p (reading r) = ReadingOk W p r
-OpOk P W p ended = Unit {0}
+OpOk P W p x = Unit {0}
 
 -- ---- everything
 
@@ -174,13 +167,10 @@ module _ (P : Params) (W V : PlainState) (g : Grows P W V) where
     begun_grows p h.0,
     (r.0, (r.1.0, g.sent (ReadRequest p r.1.0 r.0) r.1.1), genuine_grows r.0 v x r.2),
   )
-  msg_grows (RenewalRequest j i r) h = tt
   msg_grows (RenewalAnswer i j y) h = λ b. genuine_grows y.renewal.object y.version y.value (h b)
-  msg_grows (Invalidation i j o v) h = tt
-  msg_grows (InvalidationAnswer j i l) h = tt
+  msg_grows m h = tt
 
   pub op_grows : (p : ℕ) (x : Operation) → OpOk P W p x → OpOk P V p x
-  op_grows p unused h = tt
   op_grows p (asking a) h = record {
     own = h.own;
     clocks = λ i b. let r = h.clocks i b in (r.0, g.sent (ClockAnswer i p r.0) r.1, r.2);
@@ -195,4 +185,4 @@ module _ (P : Params) (W V : PlainState) (g : Grows P W V) where
     heard = λ j b. let y = h.heard j b in (y.0, y.1, g.sent (ReadAnswer j p y.0 y.1) y.2, y.3);
     genuine = elim h.genuine [ inl z ↦ inl z | inr z ↦ inr (genuine_grows r.object r.version r.value z) ];
   }
-  op_grows p ended h = tt
+  op_grows p x h = tt

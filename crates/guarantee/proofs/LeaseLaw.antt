@@ -11,13 +11,13 @@ use Rattle.guarantee.proofs.CallEffects.{params_of}
 use Rattle.guarantee.proofs.ChannelOf.{Says}
 use Rattle.guarantee.proofs.Fence.{over}
 use Rattle.guarantee.proofs.Kept.{view, Kept}
-use Rattle.guarantee.proofs.Stories.{has_in, fine}
+use Rattle.guarantee.proofs.Traces.{has_in, fine}
 use Rattle.guarantee.proofs.Channel.{lease}
 use Rattle.guarantee.proofs.Words.{in_any}
 use Rattle.guarantee.proofs.PlainState.{Params, plain_of}
 
 pub leases_run_out : LeasesRunOut
-leases_run_out S il ol closed t h is_open i j i<n j<m waited y asks some sent = elim (fine S il ol closed t h) [
+leases_run_out S il ol closed t h is_open i j i<n j<m waited y asks some sent = elim (fine (record { story = S; in_lawful = il; out_lawful = ol; closed = closed }) t h) [
   | inl f ↦ absurd (false≢true (sym f ∙ is_open))
   | inr k ↦ ends k.live.params k.live.kept
 ]

@@ -15,10 +15,14 @@ pub mod Steps
 pub mod Keeps
 pub mod Next
 pub mod CallEffects
+pub mod Later
 pub mod CallSteps
 pub mod Opens
 pub mod Ends
 pub mod AfterWrite
+pub mod Lives
+pub mod Traces
+pub mod Events
 pub mod Stories
 pub mod LeaseLaw
 pub mod Waiting

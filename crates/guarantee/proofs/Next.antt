@@ -27,7 +27,7 @@ use Rattle.guarantee.proofs.Reacting.{reacts_gets}
 use Rattle.guarantee.proofs.Sets.{has_none, of_set_of, of_joined}
 use Rattle.guarantee.proofs.Steps.{moves}
 use Rattle.guarantee.proofs.Words.{at, at_cases, at_same, In, All, all_map, all-++, all_at, any_old, any_new, each_all, any_each}
-use Rattle.guarantee.proofs.PlainState.{Params, PlainState, Act, ticks, writes, reads, hears, run, reaction, answered}
+use Rattle.guarantee.proofs.PlainState.{Params, PlainState, Act, ticks, writes, reads, hears, run, reaction, answers_to}
 
 module _ (P : Params) (small : Small P) (lawful : Lawful P.inputs) (W : PlainState) (k : Kept P W) where
   msg_at : (m : Message) → In m W.sent → MsgOk P W m
@@ -105,8 +105,8 @@ module _ (P : Params) (small : Small P) (lawful : Lawful P.inputs) (W : PlainSta
         tt,
       ))
 
-  sends_ok : (m : Message) (y : Operation) → May P (hears m) W → W.op (answered m) ≡ y → All (MsgOk P (next (hears m))) (reaction P m y).sends
-  sends_ok = every_reaction P.inputs P.outputs (λ m y r. May P (hears m) W → W.op (answered m) ≡ y → All (MsgOk P (next (hears m))) r.sends) (record {
+  sends_ok : (m : Message) (y : Operation) → May P (hears m) W → W.op (answers_to m) ≡ y → All (MsgOk P (next (hears m))) (reaction P m y).sends
+  sends_ok = every_reaction P.inputs P.outputs (λ m y r. May P (hears m) W → W.op (answers_to m) ≡ y → All (MsgOk P (next (hears m))) r.sends) (record {
     stays = λ m y n h e. tt;
     asks = λ a p c x t h e. tt;
     gets = λ a p c x t h e. requests_ok a p c h x e t;
@@ -310,11 +310,11 @@ module _ (P : Params) (small : Small P) (lawful : Lawful P.inputs) (W : PlainSta
           let d : r.object ≡ said.0 = subst (λ (y : Operation). Reads y said.0) e (msg_at (ReadRequest p said.1.0 said.0) said.1.1).1 in
           subst (λ (o : ℕ). Genuine W o v x) (sym d) said.2
 
-  op_next : (m : Message) (y : Operation) → May P (hears m) W → W.op (answered m) ≡ y → OpOk P W (answered m) y
-      → OpOk P (next (hears m)) (answered m) (reaction P m y).next
-  op_next = every_reaction P.inputs P.outputs (λ m y r. May P (hears m) W → W.op (answered m) ≡ y → OpOk P W (answered m) y
-      → OpOk P (next (hears m)) (answered m) r.next) (record {
-        stays = λ m y n h e ok. op_grows P W (next (hears m)) (grows P small W k (hears m) h) (answered m) y ok;
+  op_next : (m : Message) (y : Operation) → May P (hears m) W → W.op (answers_to m) ≡ y → OpOk P W (answers_to m) y
+      → OpOk P (next (hears m)) (answers_to m) (reaction P m y).next
+  op_next = every_reaction P.inputs P.outputs (λ m y r. May P (hears m) W → W.op (answers_to m) ≡ y → OpOk P W (answers_to m) y
+      → OpOk P (next (hears m)) (answers_to m) r.next) (record {
+        stays = λ m y n h e ok. op_grows P W (next (hears m)) (grows P small W k (hears m) h) (answers_to m) y ok;
         asks = λ a p c x t h e ok. asked_next a p c h x e ok;
         gets = λ a p c x t h e ok. sent_next a p c h x e ok t;
         sends = λ a p s w t h e ok. record {

@@ -2,7 +2,7 @@
 use Rattle.std.proofs.Common.{◌≡◌, ℕ, zero, suc, ◌+◌, ◌<◌, ◌≤◌, Bool, true, false, cond, not, ◌&&◌, ◌||◌, eqb, ltb, ◌⊎◌, List, [], ◌∷◌, length, get_or, replicate, sym, refl, ap, ◌∙◌, subst, inl, inr, arith}
 use mathlib.Core.Path.{fun_ext}
 use lib.ListN.{length-replicate, get_or-replicate, get_or-eq_default}
-use Rattle.std.proofs.lemmas.Bool.{cases_lt, cond_both, cond-false, or_parts, ltb-false, not-false, lt-ltb, le-ltb}
+use Rattle.std.proofs.lemmas.Bool.{cases_lt, or_parts, ltb-false, not-false, lt-ltb, le-ltb}
 use Rattle.quorum.specs.Systems.{System, Lawful}
 use Rattle.rules.specs.declared.kept.Copied.{Copied}
 use Rattle.rules.specs.declared.kept.Held.{Held}
@@ -18,7 +18,7 @@ use Rattle.numbers.specs.Numbers.{none, starting, between, longest, clock_of}
 use Rattle.rules.specs.Operation.{Operation}
 use Rattle.rules.specs.Output.{Output, no_newest, no_copy, no_link, newest_of, link, copy_of, first_output}
 use Rattle.rules.specs.Said.{accepted}
-use Rattle.rules.specs.State.{State, Outcome, outcome, refuse}
+use Rattle.rules.specs.State.{State, Outcome, outcome}
 use Rattle.guarantee.specs.Story.{Call, to_open, to_advance, to_write, to_read, to_deliver, outcome_of}
 use Rattle.guarantee.proofs.CallEffects.{params_of, Framed}
 use Rattle.guarantee.proofs.CallSteps.{Refuses}

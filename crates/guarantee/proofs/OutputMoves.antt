@@ -18,9 +18,9 @@ use Rattle.rules.specs.Input.{Input}
 use Rattle.rules.specs.Lists.{list_of}
 use Rattle.numbers.specs.Numbers.{raised, later, longer, lease_end}
 use Rattle.rules.specs.Output.{Output, no_newest, no_copy, no_link, newest_of, link, copy_of, sound, leased, good, covers, valid}
-use Rattle.rules.specs.Output.{asked as wanted, asks, asks_all, answers_read, with_copy, hears, hears_all, accepts, takes_copy, takes_lease}
+use Rattle.rules.specs.Output.{asked as wanted, asks_all, answers_read, with_copy, hears, hears_all, accepts, takes_copy, takes_lease}
 use Rattle.rules.specs.Output.{after_answer, acknowledgement, after_invalidation, answers_invalidation}
-use Rattle.rules.specs.Renewals.{asks_object, asks_volume, parts_of}
+use Rattle.rules.specs.Renewals.{asks_object, asks_volume}
 use Rattle.guarantee.proofs.Channel.{Has, Channel, Part, asked, copy, lease, answer, Grant, Moves, Fresh, Good}
 use Rattle.guarantee.proofs.Words.{set_from, Any, In, any_old, any_split, in_any, All, each_all, each_any, each_length}
 use Rattle.guarantee.proofs.ChannelOf.{IsAsked, IsAnswer, Says, channel_of, Quiet, OutputShape}

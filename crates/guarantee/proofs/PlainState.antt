@@ -1,6 +1,6 @@
 -- The field as the proofs see it: servers and operations as functions of their numbers, and the messages made so far.
 -- What each accepted call does to it, by the rules' own handlers.
-use Rattle.std.proofs.Common.{◌≡◌, ℕ, zero, suc, ◌+◌, ◌-◌, ◌<◌, ◌≤◌, Bool, false, cond, eqb, List, [], ◌∷◌, ◌++◌, length, get_or, take, drop, set, sym, refl, ap, ◌∙◌, inl, inr, arith, length-append, length-take, take_all}
+use Rattle.std.proofs.Common.{◌≡◌, ℕ, zero, suc, ◌+◌, ◌-◌, ◌<◌, ◌≤◌, Bool, false, cond, eqb, List, [], ◌++◌, length, get_or, take, drop, set, sym, refl, ap, ◌∙◌, inl, inr, arith, length-append, length-take, take_all}
 use mathlib.Core.Path.{fun_ext}
 use lib.Seq.{sets-eq, take-append-le}
 use Rattle.std.proofs.lemmas.Bool.{cases_eq, eq-eqb, ne_eqb}
@@ -69,11 +69,11 @@ abbrev pub reaction : Params → Message → Operation → Reaction
 reaction P m x = reacts P.inputs P.outputs m x
 
 -- the operation that an answer is for
-abbrev pub answered : Message → ℕ
-answered (ClockAnswer i p c) = p
-answered (WriteAnswer i p t) = p
-answered (ReadAnswer j p v x) = p
-answered m = 0
+abbrev pub answers_to : Message → ℕ
+answers_to (ClockAnswer i p c) = p
+answers_to (WriteAnswer i p t) = p
+answers_to (ReadAnswer j p v x) = p
+answers_to m = 0
 
 abbrev pub at_reaction : ℕ → Reaction → PlainState → PlainState
 at_reaction p r W = at_op p r.next r.sends W

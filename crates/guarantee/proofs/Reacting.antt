@@ -9,7 +9,7 @@ use Rattle.rules.specs.Operation.{Operation, asking, ended, Asking, gets_version
 use Rattle.rules.specs.Reaction.{Reaction, sends_version, reacts}
 use Rattle.rules.specs.Said.{refused}
 use Rattle.rules.proofs.Reactions.{IsAwaited, every_reaction, reacts_stays}
-use Rattle.guarantee.proofs.Words.{All, each_all, each_nine}
+use Rattle.guarantee.proofs.Words.{never, All, each_all, each_nine}
 
 -- no answer is awaited by an operation that ended
 ended_awaits_none : (m : Message) → IsAwaited m ended → ⊥
@@ -59,14 +59,11 @@ module _ (inputs outputs : System) where
   -- it says no refusal
   pub refuses_none : (number : ℕ) (m : Message) (y : Operation) → (reacts inputs outputs m y).said ≡ refused number → ⊥
   refuses_none number = every_reaction inputs outputs (λ m y r. r.said ≡ refused number → ⊥) (record {
-    stays = λ m y n h. clash (cc);
-    asks = λ i p c a e h. clash (cc);
-    gets = λ i p c a e h. clash (cc);
-    sends = λ i p t w e h. clash (cc);
-    writes = λ i p t w e h. clash (cc);
-    gathers = λ j p v x r e h. clash (cc);
-    reads = λ j p v x r e h. clash (cc);
+    stays = λ m y n h. never (cc);
+    asks = λ i p c a e h. never (cc);
+    gets = λ i p c a e h. never (cc);
+    sends = λ i p t w e h. never (cc);
+    writes = λ i p t w e h. never (cc);
+    gathers = λ j p v x r e h. never (cc);
+    reads = λ j p v x r e h. never (cc);
   })
-    where
-      clash : ◌≡◌ {A = ℕ} 0 1 → ⊥
-      clash h = omega arith

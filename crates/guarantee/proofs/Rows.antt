@@ -1,6 +1,6 @@
 -- A row of tests, each with the number of its refusal: what holds of a call that refuses by the row, or goes on.
-use Rattle.std.proofs.Common.{◌≡◌, ℕ, Bool, true, false, cond, not, Some, Option, refl, ap, ◌∙◌}
-use Rattle.std.proofs.lemmas.Bool.{not-false, cond-false}
+use Rattle.std.proofs.Common.{◌≡◌, ℕ, Bool, true, false, cond, not, Some, Option, refl, ap}
+use Rattle.std.proofs.lemmas.Bool.{not-false}
 use Rattle.quorum.specs.Systems.{System}
 use Rattle.rules.specs.Calls.{unless, as_opened, later_refusal}
 use Rattle.rules.specs.State.{State, Outcome, refuse}

@@ -4,7 +4,7 @@ use lib.Bits.{bit_or, or_step, or_shr, or_lt}
 use lib.Pow.{pow-lt}
 use Rattle.std.proofs.lemmas.Bool.Decides.{nat_tests}
 use Rattle.std.proofs.lemmas.Bool.{cases_eq, and_parts, and_from, or_cases, ltb-true, lt-ltb, eqb-true, cond_both, cond-true}
-use Rattle.quorum.specs.Sets.{has, set_of, joined}
+use Rattle.quorum.specs.Sets.{has, set_of, all_below, joined}
 use Rattle.quorum.specs.Members.{has_half, has_low}
 
 -- the lowest place of two sets together
@@ -83,3 +83,13 @@ set_of-within (suc n) f =
 
 pub joined_within : (n s k : ℕ) → k < n → n ≤ 64 → s < 2 ^ n → joined s k < 2 ^ n
 joined_within n s k l m h = cond_both (ltb k 64) (bit_or s (2 ^ k)) s (λ (x : ℕ). x < 2 ^ n) (λ _. or_lt n s (2 ^ k) h (pow-lt l)) (λ _. h)
+
+-- what every number below n passes
+pub below_passes : (n : ℕ) (test : ℕ → Bool) (i : ℕ) → all_below n test ≡ true → i < n → test i ≡ true
+below_passes zero test i h l = absurd (omega arith)
+below_passes (suc n) test i h l =
+    let b = and_parts (all_below n test) (test n) h in
+    elim (cases_eq i n) [
+      | inl e ↦ ap test e ∙ b.1
+      | inr e ↦ below_passes n test i b.0 (omega arith)
+    ]

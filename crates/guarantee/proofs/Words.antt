@@ -4,6 +4,10 @@ use Rattle.std.proofs.lemmas.Bool.{cases_eq, cases_lt, cond_both, eqb-true, eqb-
 pub use Rattle.rules.proofs.Places.{set_beyond}
 use Rattle.rules.specs.Lists.{each}
 
+-- from two numbers that are equal and are not, anything
+pub never : {A : Type 0} → ◌≡◌ {A = ℕ} 0 1 → A
+never h = absurd (omega arith)
+
 -- ---- a function changed at one place
 
 abbrev pub at : {A : Type 0} → ℕ → A → (ℕ → A) → ℕ → A

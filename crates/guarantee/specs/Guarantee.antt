@@ -58,8 +58,9 @@ pub record BegunOnce (t : ℕ) (Kind Other : ℕ → Type 0) : Type 0 where
 
 abbrev pub WhatEndsHasBegun : Story → Type 0
 WhatEndsHasBegun S =
-    ((p t w y : ℕ) → EndsWrite S t p w y → BegunOnce t (λ u. BeginsAsWrite S u p) (λ u. BeginsAsRead S u p))
-    × ((p t v z : ℕ) → EndsRead S t p v z → BegunOnce t (λ u. BeginsAsRead S u p) (λ u. BeginsAsWrite S u p))
+    (p t v x : ℕ)
+    → (EndsWrite S t p v x → BegunOnce t (λ u. BeginsAsWrite S u p) (λ u. BeginsAsRead S u p))
+    × (EndsRead S t p v x → BegunOnce t (λ u. BeginsAsRead S u p) (λ u. BeginsAsWrite S u p))
 
 pub record Guarantee (S : Story) : Type 0 where
   pub never_behind : NeverBehind S

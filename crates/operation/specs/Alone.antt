@@ -31,7 +31,8 @@ own_number x = 0
 
 abbrev pub refusal_alone : System → System → Operation → Message → ℕ
 refusal_alone inputs outputs x m =
-    refusal_with inputs outputs (own_number x) (state_fits (widest inputs outputs) (own_number x) x) (has_next_clock x) m
+    let own = own_number x in
+    refusal_with inputs outputs own (state_fits (widest inputs outputs) own x) (has_next_clock x) m
 
 -- the same at a place of a table: one that is unused, or whose operation ended, takes every message
 abbrev pub refusal_at : System → System → Operation → Message → ℕ
@@ -39,12 +40,12 @@ refusal_at inputs outputs unused m = 0
 refusal_at inputs outputs ended m = 0
 refusal_at inputs outputs x m = refusal_alone inputs outputs x m
 
--- what becomes of a state that is handed a message: it is handed back with the number of the refusal, or reacts
+-- what becomes of a state that is handed a message: it takes it, or is handed back with the refusal's number
 pub data Handed : Type 0 where
   handed_back : ℕ → Operation → Handed
-  reacted : Reaction → Handed
+  taken : Reaction → Handed
 
 abbrev pub alone : System → System → Message → Operation → Handed
 alone inputs outputs m x =
-    if refusal_at inputs outputs x m == 0 then reacted (reacts inputs outputs m x)
+    if refusal_at inputs outputs x m == 0 then taken (reacts inputs outputs m x)
     else handed_back (refusal_at inputs outputs x m) x

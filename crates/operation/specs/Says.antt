@@ -13,7 +13,7 @@ use Rattle.operation.specs.declared.progress.Progress.TheVariants.{On, Ended}
 use Rattle.operation.specs.declared.table.Operation.{Operation as Place}
 use Rattle.operation.specs.declared.table.Reaction.{Reaction as PlaceStep}
 use Rattle.operation.specs.declared.table.Reaction.TheVariants as R
-use Rattle.operation.specs.Alone.{Handed, handed_back, reacted}
+use Rattle.operation.specs.Alone.{Handed, handed_back, taken}
 use Rattle.operation.specs.States.{asking_of, sending_of, reading_of, operation_of}
 use Rattle.rules.specs.Answers.{end_of}
 use Rattle.rules.specs.Operation.{Operation, asking, sending, reading}
@@ -53,7 +53,7 @@ place_step inputs (R.Ends d) = ends_with (end_of d)
 
 abbrev pub says : {State Progress : Type 0}
     → (State → Operation) → (Progress → Reaction) → Result Progress (Refusal × State) → Handed
-says state step (Ok s) = reacted (step s)
+says state step (Ok s) = taken (step s)
 says state step (Err e) = handed_back (number_of e.0) (state e.1)
 
 abbrev pub asking_says : System → Result AskingProgress (Refusal × AskingWrite) → Handed

@@ -43,7 +43,10 @@ pub(crate) trait State: Sized {
     // Whether the operation that the message names, if it names one, is this one, begun and in range,
     // with room for a version where the message is a clock answer.
     final fn is_named(&self, message: &Message, counts: Counts) -> bool
-        ensures { let own = own_number (meaning self.now) in result ≡ operation_fits (λ p. (p == own) && (between 1 1024 own && state_fits (counts_of counts) own (meaning self.now))) (λ _. has_next_clock (meaning self.now)) message.now }
+        ensures { let state = meaning self.now in
+            let own = own_number state in
+            let fits = between 1 1024 own && state_fits (counts_of counts) own state in
+            result ≡ operation_fits (λ p. (p == own) && fits) (λ _. has_next_clock state) message.now }
     {
         let Some(operation) = message.operation() else {
             return true;
@@ -65,7 +68,9 @@ pub(crate) trait State: Sized {
         message: &Message,
         systems: &Systems<I, O>,
     ) -> Result<Self, (Refusal, Self)>
-        ensures { Accepted (refusal_alone (I.QuorumSystem.meaning systems.now.inputs) (O.QuorumSystem.meaning systems.now.outputs) (meaning self) message.now) self result }
+        ensures { let inputs = I.meaning systems.now.inputs in
+            let outputs = O.meaning systems.now.outputs in
+            Accepted (refusal_alone inputs outputs (meaning self) message.now) self result }
     {
         let Some(counts) = widest(systems) else {
             return Err((Refusal::TooManyMembers, self));

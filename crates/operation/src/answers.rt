@@ -16,7 +16,9 @@ impl Operation {
         message: &Message,
         systems: &Systems<I, O>,
     ) -> Result<Reaction, (Refusal, Operation)>
-        ensures does { alone (I.QuorumSystem.meaning systems.now.inputs) (O.QuorumSystem.meaning systems.now.outputs) message.now (operation_of self) ≡ place_says (I.QuorumSystem.meaning systems.now.inputs) result }
+        ensures does { let inputs = I.meaning systems.now.inputs in
+            let outputs = O.meaning systems.now.outputs in
+            alone inputs outputs message.now (operation_of self) ≡ place_says inputs result }
         ensures same { HandsBack self result }
     {
         match self {

@@ -35,7 +35,9 @@ impl AskingWrite {
         message: &Message,
         systems: &Systems<I, O>,
     ) -> Result<AskingProgress, (Refusal, AskingWrite)>
-        ensures does { alone (I.QuorumSystem.meaning systems.now.inputs) (O.QuorumSystem.meaning systems.now.outputs) message.now (asking (asking_of self)) ≡ asking_says (I.QuorumSystem.meaning systems.now.inputs) result }
+        ensures does { let inputs = I.meaning systems.now.inputs in
+            let outputs = O.meaning systems.now.outputs in
+            alone inputs outputs message.now (asking (asking_of self)) ≡ asking_says inputs result }
         ensures same { HandsBack self result }
     {
         let write = self.accept(message, systems)?;
@@ -50,7 +52,8 @@ impl AskingWrite {
     // The clock of one input server.
     fn hear<I: QuorumSystem>(self, input: u8, clock: u16, inputs: &I) -> AskingProgress
         requires { (self.clock < 65535) × (clock < 65535) }
-        ensures { asking_step (I.meaning inputs.now) result ≡ asks_next (I.meaning inputs.now) (hears_clock input clock (asking_of self)) }
+        ensures { let heard = hears_clock input clock (asking_of self) in
+            asking_step (I.meaning inputs.now) result ≡ asks_next (I.meaning inputs.now) heard }
     {
         let write = AskingWrite {
             senders: self.senders.with(input),

@@ -35,7 +35,9 @@ impl Read {
         message: &Message,
         systems: &Systems<I, O>,
     ) -> Result<Progress<Read>, (Refusal, Read)>
-        ensures does { alone (I.QuorumSystem.meaning systems.now.inputs) (O.QuorumSystem.meaning systems.now.outputs) message.now (reading (reading_of self)) ≡ read_says result }
+        ensures does { let inputs = I.meaning systems.now.inputs in
+            let outputs = O.meaning systems.now.outputs in
+            alone inputs outputs message.now (reading (reading_of self)) ≡ read_says result }
         ensures same { HandsBack self result }
     {
         let read = self.accept(message, systems)?;
@@ -59,7 +61,8 @@ impl Read {
         value: u64,
         outputs: &O,
     ) -> Progress<Read>
-        ensures { read_step result ≡ reads_next (O.meaning outputs.now) operation (hears_pair output version value (reading_of self)) }
+        ensures { let heard = hears_pair output version value (reading_of self) in
+            read_step result ≡ reads_next (O.meaning outputs.now) operation heard }
     {
         let read = self.with_pair(output, version, value);
         if outputs.is_read_set(read.senders) {

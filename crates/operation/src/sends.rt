@@ -26,7 +26,9 @@ impl SendingWrite {
         message: &Message,
         systems: &Systems<I, O>,
     ) -> Result<Progress<SendingWrite>, (Refusal, SendingWrite)>
-        ensures does { alone (I.QuorumSystem.meaning systems.now.inputs) (O.QuorumSystem.meaning systems.now.outputs) message.now (sending (sending_of self)) ≡ sending_says result }
+        ensures does { let inputs = I.meaning systems.now.inputs in
+            let outputs = O.meaning systems.now.outputs in
+            alone inputs outputs message.now (sending (sending_of self)) ≡ sending_says result }
         ensures same { HandsBack self result }
     {
         let write = self.accept(message, systems)?;
@@ -40,8 +42,8 @@ impl SendingWrite {
         }
     }
 
-    // The output servers that one input server named to the operation. The numbers are plain, as the message has
-    // them.
+    // The output servers that one input server named to the operation. The numbers are plain, as
+    // the message has them.
     fn hear<I: QuorumSystem, O: QuorumSystem>(
         self,
         input: u8,
@@ -50,7 +52,10 @@ impl SendingWrite {
         systems: &Systems<I, O>,
     ) -> Progress<SendingWrite>
         requires { input < 8 }
-        ensures { sending_step result ≡ sends_next (I.QuorumSystem.meaning systems.now.inputs) (O.QuorumSystem.meaning systems.now.outputs) operation (hears_named input set (sending_of self)) }
+        ensures { let inputs = I.meaning systems.now.inputs in
+            let outputs = O.meaning systems.now.outputs in
+            let heard = hears_named input set (sending_of self) in
+            sending_step result ≡ sends_next inputs outputs operation heard }
     {
         let write = self.with_named(input, set);
         if write.is_written(systems) {
@@ -76,7 +81,9 @@ impl SendingWrite {
 
     // The write has ended when the output servers that count are a write set.
     fn is_written<I: QuorumSystem, O: QuorumSystem>(&self, systems: &Systems<I, O>) -> bool
-        ensures { result ≡ is_written (I.QuorumSystem.meaning systems.now.inputs) (O.QuorumSystem.meaning systems.now.outputs) (sending_of self.now) }
+        ensures { let inputs = I.meaning systems.now.inputs in
+            let outputs = O.meaning systems.now.outputs in
+            result ≡ is_written inputs outputs (sending_of self.now) }
     {
         systems
             .outputs
@@ -85,7 +92,8 @@ impl SendingWrite {
 
     // The output servers, among that many, that count.
     fn counted<I: QuorumSystem>(&self, inputs: &I, outputs: u8) -> MemberSet
-        ensures { result ≡ gathered outputs (counts (I.meaning inputs.now) (I.meaning inputs.now).count self.now.named) }
+        ensures { let system = I.meaning inputs.now in
+            result ≡ gathered outputs (counts system system.count self.now.named) }
     {
         // gathered here: a function that is handed the test would be public, and have to ask its callers that
         // the test may be called; no public function asks anything
@@ -96,7 +104,8 @@ impl SendingWrite {
 
     // An output server counts when the input servers that named it are a write set.
     fn is_counted<I: QuorumSystem>(&self, output: u8, inputs: &I) -> bool
-        ensures { result ≡ counts (I.meaning inputs.now) (I.meaning inputs.now).count self.now.named output }
+        ensures { let system = I.meaning inputs.now in
+            result ≡ counts system system.count self.now.named output }
     {
         inputs.is_write_set(self.namers(output, inputs.count()))
     }
@@ -130,7 +139,9 @@ impl SendingWrite {
     }
 
     fn named_fits(&self, input: u8, counts: Counts) -> bool
-        ensures { result ≡ (if nat_lt input counts.inputs.number then nat_lt (named_by self.now.named input) (2 ^ counts.outputs.number) else (named_by self.now.named input == 0)) }
+        ensures { let named = named_by self.now.named input in
+            result ≡ (if nat_lt input counts.inputs.number then nat_lt named (2 ^ counts.outputs.number)
+            else (named == 0)) }
     {
         let named = self.named_by(input);
         if input < counts.inputs.get() {

@@ -14,7 +14,7 @@ use Rattle.rules.specs.Output.{answers_read, after_answer, acknowledgement, afte
 use Rattle.rules.specs.Ranges.{numbers_fit, operation_fits, state_fits, has_next_clock}
 use Rattle.rules.specs.Reaction.{Reaction, reacts}
 use Rattle.rules.specs.Said.{accepted, began, nothing_ended}
-use Rattle.rules.specs.State.{State, Outcome, outcome, refuse, input_at, output_at, post, with_input, with_output}
+use Rattle.rules.specs.State.{State, Outcome, outcome, refuse, no_input, no_output, input_at, output_at, post, with_input, with_output}
 use Rattle.rules.specs.Steps.{has_room}
 
 -- a call refuses by the first number of its row whose condition holds, and does what it is for where none does
@@ -105,19 +105,21 @@ keep_each drift xs ys = list_all (λ x. keeps_with drift x ys) xs
 abbrev pub keeps_drift : ℕ → List ℕ → Bool
 keeps_drift drift xs = keep_each drift xs xs
 
-abbrev pub later_inputs : List ℕ → ℕ → State → State
-later_inputs increments zero s = s
-later_inputs increments (suc c) s =
-    with_input c (later_input (slice_index increments c) (input_at (later_inputs increments c s) c)) (later_inputs increments c s)
+-- the first c servers of a side, server i later by x i; `none` is one that is not there
+abbrev pub each_later : {A : Type 0} → (ℕ → A → A) → A → (ℕ → ℕ) → ℕ → List A → List A
+each_later later none x zero servers = servers
+each_later later none x (suc c) servers =
+    slice_set (each_later later none x c servers) c
+    (later (x c) (slice_index_or (each_later later none x c servers) c none))
 
-abbrev pub later_outputs : List ℕ → ℕ → ℕ → State → State
-later_outputs increments from zero s = s
-later_outputs increments from (suc c) s =
-    with_output c (later_output (slice_index increments (from + c)) (output_at (later_outputs increments from c s) c)) (later_outputs increments from c s)
-
+-- the increments of the input servers come first
 abbrev pub advanced : List ℕ → State → State
-advanced increments s =
-    later_outputs increments s.frame.counts.n s.frame.counts.m (later_inputs increments s.frame.counts.n s)
+advanced increments s = record s {
+  inputs = each_later later_input no_input (λ i. slice_index increments i)
+      s.frame.counts.n s.inputs;
+  outputs = each_later later_output no_output (λ j. slice_index increments (s.frame.counts.n + j))
+      s.frame.counts.m s.outputs;
+}
 
 abbrev pub advancing_refusal : System → System → List ℕ → State → Option ℕ
 advancing_refusal inputs outputs increments s = later_refusal inputs outputs s
@@ -175,7 +177,8 @@ in_range x s = numbers_fit s.frame.counts x && operation_fits (is_known s) (λ p
 abbrev pub quiet : State → Outcome
 quiet s = outcome nothing_ended s
 
--- what becomes of a field where operation p reacts so: its next state stands in the table, and what it sends is logged
+-- what becomes of a field where operation p reacts so: its next state stands in the table, and what it
+-- sends is logged
 abbrev pub reacted : ℕ → Reaction → State → Outcome
 reacted p r s = outcome r.said (post r.sends (with_operation p r.next s))
 
