@@ -85,7 +85,7 @@ pub struct Looks {
     pub inputs: u8,
     pub outputs: u8,
     pub objects: u8,
-    pub made: usize,
+    pub made: u64,
     pub begun: u16,
 }
 
@@ -136,7 +136,7 @@ impl<I: QuorumSystem + Drop, O: QuorumSystem + Drop> Bench<I, O> {
     pub fn deliver(&mut self, number: usize) -> Result<Delivery, Refusal> {
         let lent = &mut self.lent;
         self.field
-            .deliver(&mut lent.log, &mut lent.table, &lent.systems, number)
+            .deliver(&mut lent.log, &mut lent.table, &lent.systems, number as u64)
     }
 
     /// What is seen of the field.
@@ -163,7 +163,7 @@ impl<I: QuorumSystem + Drop, O: QuorumSystem + Drop> Bench<I, O> {
     }
 
     pub(crate) fn made_from(&self, first: usize) -> Option<&[Message]> {
-        let last = self.field.messages_made();
+        let last = usize::try_from(self.field.messages_made()).ok()?;
         self.lent.log.get(first.checked_sub(1)?..last)
     }
 

@@ -64,12 +64,20 @@ pub fn read_answer(output: u8, operation: u16, version: Version, value: u64) -> 
 
 /// An output server asks an input server for these parts, at that time in microseconds.
 pub fn renewal_request(output: u8, input: u8, parts: Parts, object: u8, stamp: u64) -> Message {
-    Message::RenewalRequest { output, input, renewal: Renewal { parts, object, stamp: Time(stamp) } }
+    Message::RenewalRequest {
+        output,
+        input,
+        renewal: Renewal {
+            parts,
+            object,
+            stamp: Time(stamp),
+        },
+    }
 }
 
-/// What a renewal answer carries beside its ends and its object.
+/// What an input server grants with a renewal answer: all that it carries but its ends and its object.
 #[derive(Clone, Copy)]
-pub struct Renewal {
+pub struct Grant {
     pub parts: Parts,
     pub version: Version,
     pub value: u64,
@@ -79,11 +87,11 @@ pub struct Renewal {
     pub list: Pairs,
 }
 
-impl Renewal {
+impl Grant {
     /// Of both parts, asked for at 0, in the first epoch, with a lease of 1,000 and nothing
     /// waiting.
-    pub fn of_both(version: Version, value: u64) -> Renewal {
-        Renewal {
+    pub fn of_both(version: Version, value: u64) -> Grant {
+        Grant {
             parts: Parts::Both,
             version,
             value,
@@ -95,26 +103,43 @@ impl Renewal {
     }
 
     /// Of the object alone.
-    pub fn of_object(version: Version, value: u64) -> Renewal {
-        Renewal {
+    pub fn of_object(version: Version, value: u64) -> Grant {
+        Grant {
             parts: Parts::Object,
             length: 0,
-            ..Renewal::of_both(version, value)
+            ..Grant::of_both(version, value)
         }
     }
 
     /// Of the volume alone, with that list.
-    pub fn of_volume(list: Pairs) -> Renewal {
-        Renewal {
+    pub fn of_volume(list: Pairs) -> Grant {
+        Grant {
             parts: Parts::Volume,
             list,
-            ..Renewal::of_both(Version::NONE, 0)
+            ..Grant::of_both(Version::NONE, 0)
         }
     }
 
     /// The message from an input server to an output server, about an object.
     pub fn answer(self, input: u8, output: u8, object: u8) -> Message {
-        Message::RenewalAnswer { input, output, renewed: Renewed { renewal: Renewal { parts: self.parts, object, stamp: Time(self.stamp) }, version: self.version, value: self.value, epoch: Epoch(self.epoch), length: self.length, list: self.list } }
+        let renewal = Renewal {
+            parts: self.parts,
+            object,
+            stamp: Time(self.stamp),
+        };
+        let renewed = Renewed {
+            renewal,
+            version: self.version,
+            value: self.value,
+            epoch: Epoch(self.epoch),
+            length: self.length,
+            list: self.list,
+        };
+        Message::RenewalAnswer {
+            input,
+            output,
+            renewed,
+        }
     }
 }
 

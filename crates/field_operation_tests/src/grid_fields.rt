@@ -1,7 +1,7 @@
 // A field whose input servers, or whose output servers, go by a grid: the columns are {0, 1} and
 // {2, 3}. On the other side servers go by majority.
 use field_bench::messages::{
-    Renewal, clock_answer, invalidation, read_answer, read_ended, read_request, renewal_request,
+    Grant, clock_answer, invalidation, read_answer, read_ended, read_request, renewal_request,
     write_answer, write_ended, write_request,
 };
 use field_bench::{Bench, Grid, Lent, opening};
@@ -108,8 +108,8 @@ fn one_answer(alloc: Global) -> Result<Bench<Grid, Majority>, Fail> {
     bench.expect_read(0, 2)?;
     bench.nothing_ends(&[15, 18, 19, 22, 23, 15])?;
     let made = [
-        Renewal::of_both(WRITTEN, 7).answer(0, 0, 0),
-        Renewal::of_both(Version::STARTING, 0).answer(1, 0, 0),
+        Grant::of_both(WRITTEN, 7).answer(0, 0, 0),
+        Grant::of_both(Version::STARTING, 0).answer(1, 0, 0),
         renewal_request(0, 2, Parts::Both, 0, 0),
         renewal_request(0, 3, Parts::Both, 0, 0),
     ];
@@ -117,7 +117,7 @@ fn one_answer(alloc: Global) -> Result<Bench<Grid, Majority>, Fail> {
     // with input server 2 it answers
     bench.nothing_ends(&[24, 26, 15])?;
     let made = [
-        Renewal::of_both(WRITTEN, 7).answer(2, 0, 0),
+        Grant::of_both(WRITTEN, 7).answer(2, 0, 0),
         read_answer(0, 2, WRITTEN, 7),
     ];
     bench.expect_last(26, &made)?;
@@ -132,8 +132,8 @@ fn a_read_of_inputs_by_a_grid_is_not_behind(rt: HostRuntime) -> Result<(), Fail>
     let mut bench = one_answer(rt.alloc())?;
     bench.nothing_ends(&[16, 29, 31, 32, 33, 16])?;
     let made = [
-        Renewal::of_both(Version::STARTING, 0).answer(1, 1, 0),
-        Renewal::of_both(WRITTEN, 7).answer(3, 1, 0),
+        Grant::of_both(Version::STARTING, 0).answer(1, 1, 0),
+        Grant::of_both(WRITTEN, 7).answer(3, 1, 0),
         read_answer(1, 2, WRITTEN, 7),
     ];
     bench.expect_last(32, &made)?;
@@ -224,8 +224,8 @@ fn a_read_of_outputs_by_a_grid_is_not_behind(rt: HostRuntime) -> Result<(), Fail
         renewal_request(2, 0, Parts::Object, 0, 0),
         renewal_request(2, 1, Parts::Object, 0, 0),
         renewal_request(2, 2, Parts::Both, 0, 0),
-        Renewal::of_object(LATER, 7).answer(0, 2, 0),
-        Renewal::of_object(LATER, 7).answer(1, 2, 0),
+        Grant::of_object(LATER, 7).answer(0, 2, 0),
+        Grant::of_object(LATER, 7).answer(1, 2, 0),
         read_answer(2, 3, LATER, 7),
     ];
     bench.expect_last(51, &made)?;

@@ -1,7 +1,7 @@
 // The smallest field: one input server, one output server, one object. Every message of a write, of a
 // read, and of a second write that meets the copy that the read left.
 use field_bench::messages::{
-    Renewal, clock_answer, clock_question, invalidation, invalidation_answer, list_of, read_answer,
+    Grant, clock_answer, clock_question, invalidation, invalidation_answer, list_of, read_answer,
     read_ended, read_request, renewal_request, write_answer, write_ended, write_request,
 };
 use field_bench::{Bench, closed, opening};
@@ -55,7 +55,7 @@ fn a_read_renews_first(rt: HostRuntime) -> Result<(), Fail> {
     let made = [
         read_request(2, 0, 0),
         renewal_request(0, 0, Parts::Both, 0, 0),
-        Renewal::of_both(FIRST, 7).answer(0, 0, 0),
+        Grant::of_both(FIRST, 7).answer(0, 0, 0),
         read_answer(0, 2, FIRST, 7),
     ];
     bench.expect_last(5, &made)
@@ -120,13 +120,13 @@ fn a_read_after_that_is_not_behind(rt: HostRuntime) -> Result<(), Fail> {
     let mut bench = run_out(rt.alloc())?;
     bench.expect_read(0, 4)?;
     bench.nothing_ends(&[17, 18, 19, 17, 21, 22, 17])?;
-    let volume = Renewal {
+    let volume = Grant {
         stamp: 1_000,
-        ..Renewal::of_volume(list_of(0, SECOND))
+        ..Grant::of_volume(list_of(0, SECOND))
     };
-    let object = Renewal {
+    let object = Grant {
         stamp: 1_000,
-        ..Renewal::of_object(SECOND, 9)
+        ..Grant::of_object(SECOND, 9)
     };
     let made = [
         read_request(4, 0, 0),

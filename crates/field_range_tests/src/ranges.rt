@@ -1,7 +1,7 @@
 // Messages of any numbers, put into the log by the caller: which are delivered, and which are refused
 // as out of range. There are two servers on each side, and two objects; operation 1, a write, is begun.
 use field_bench::messages::{
-    Renewal, clock_answer, clock_question, counted, invalidation, invalidation_answer, list_of,
+    Grant, clock_answer, clock_question, counted, invalidation, invalidation_answer, list_of,
     naming, read_answer, read_ended, read_request, renewal_request, write_answer, write_ended,
     write_request,
 };
@@ -59,7 +59,7 @@ fn servers_of_operations(rt: HostRuntime) -> Result<(), Fail> {
 
 #[test]
 fn servers_of_servers(rt: HostRuntime) -> Result<(), Fail> {
-    let renewal = Renewal::of_both(FIRST, 0);
+    let renewal = Grant::of_both(FIRST, 0);
     let mut messages = [
         renewal_request(2, 0, Parts::Both, 0, 0),
         renewal_request(0, 2, Parts::Both, 0, 0),
@@ -75,14 +75,14 @@ fn servers_of_servers(rt: HostRuntime) -> Result<(), Fail> {
 
 #[test]
 fn objects(rt: HostRuntime) -> Result<(), Fail> {
-    let listed = Renewal::of_volume(list_of(2, FIRST));
+    let listed = Grant::of_volume(list_of(2, FIRST));
     let mut messages = [
         write_request(1, 0, 2, FIRST, 0),
         read_request(1, 0, 2),
         renewal_request(0, 0, Parts::Both, 2, 0),
         // of the volume alone too
         renewal_request(0, 0, Parts::Volume, 2, 0),
-        Renewal::of_both(FIRST, 0).answer(0, 0, 2),
+        Grant::of_both(FIRST, 0).answer(0, 0, 2),
         listed.answer(0, 0, 0),
         invalidation(0, 0, 2, FIRST),
         invalidation_answer(0, 0, list_of(2, FIRST)),
@@ -92,8 +92,8 @@ fn objects(rt: HostRuntime) -> Result<(), Fail> {
 
 #[test]
 fn versions(rt: HostRuntime) -> Result<(), Fail> {
-    let copy = Renewal::of_object(BELOW_FIRST, 0);
-    let list = Renewal::of_volume(list_of(0, BELOW_FIRST));
+    let copy = Grant::of_object(BELOW_FIRST, 0);
+    let list = Grant::of_volume(list_of(0, BELOW_FIRST));
     let mut messages = [
         write_request(1, 0, 0, BELOW_FIRST, 0),
         write_request(1, 0, 0, Version::NONE, 0),
@@ -120,26 +120,26 @@ fn clocks_and_sets(rt: HostRuntime) -> Result<(), Fail> {
 }
 
 // A renewal answer of both parts with one number changed.
-fn changed(change: Renewal) -> Message {
+fn changed(change: Grant) -> Message {
     change.answer(0, 0, 0)
 }
 
 #[test]
 fn numbers_of_renewals(rt: HostRuntime) -> Result<(), Fail> {
-    let good = Renewal::of_both(FIRST, 0);
+    let good = Grant::of_both(FIRST, 0);
     let mut messages = [
         renewal_request(0, 0, Parts::Both, 0, LAST_TIME + 1),
         renewal_request(0, 0, Parts::Both, 0, u64::MAX),
-        changed(Renewal { epoch: 0, ..good }),
-        changed(Renewal {
+        changed(Grant { epoch: 0, ..good }),
+        changed(Grant {
             epoch: 65_537,
             ..good
         }),
-        changed(Renewal {
+        changed(Grant {
             stamp: LAST_TIME + 1,
             ..good
         }),
-        changed(Renewal {
+        changed(Grant {
             length: 1_000_000_001,
             ..good
         }),
@@ -149,7 +149,7 @@ fn numbers_of_renewals(rt: HostRuntime) -> Result<(), Fail> {
 
 #[test]
 fn lists(rt: HostRuntime) -> Result<(), Fail> {
-    let nine = Renewal::of_volume(counted(9, 0, FIRST));
+    let nine = Grant::of_volume(counted(9, 0, FIRST));
     let mut messages = [
         nine.answer(0, 0, 0),
         invalidation_answer(0, 0, counted(9, 0, FIRST)),
@@ -161,22 +161,22 @@ fn lists(rt: HostRuntime) -> Result<(), Fail> {
 
 #[test]
 fn parts_that_were_not_asked_for(rt: HostRuntime) -> Result<(), Fail> {
-    let object = Renewal::of_object(FIRST, 5);
-    let volume = Renewal::of_volume(Pairs::empty());
+    let object = Grant::of_object(FIRST, 5);
+    let volume = Grant::of_volume(Pairs::empty());
     let mut messages = [
-        changed(Renewal {
+        changed(Grant {
             length: 1,
             ..object
         }),
-        changed(Renewal {
+        changed(Grant {
             list: list_of(0, FIRST),
             ..object
         }),
-        changed(Renewal {
+        changed(Grant {
             version: FIRST,
             ..volume
         }),
-        changed(Renewal { value: 1, ..volume }),
+        changed(Grant { value: 1, ..volume }),
     ];
     none_passes(rt.alloc(), &mut messages)?;
     each_passes(rt.alloc(), &mut [changed(object), changed(volume)])
@@ -206,12 +206,12 @@ fn highest_numbers_of_operations(rt: HostRuntime) -> Result<(), Fail> {
 
 #[test]
 fn highest_numbers_of_servers(rt: HostRuntime) -> Result<(), Fail> {
-    let highest = Renewal {
+    let highest = Grant {
         epoch: 65_536,
         stamp: LAST_TIME,
         length: 1_000_000_000,
         list: counted(8, 1, LAST),
-        ..Renewal::of_both(LAST, u64::MAX)
+        ..Grant::of_both(LAST, u64::MAX)
     };
     let mut messages = [
         renewal_request(1, 1, Parts::Both, 1, LAST_TIME),

@@ -2,7 +2,7 @@
 // field goes on from those that are not. There are two servers on each side, and two objects; the table
 // has one operation, a write.
 use field_bench::messages::{
-    Renewal, clock_answer, invalidation, invalidation_answer, naming, read_answer, read_ended,
+    Grant, clock_answer, invalidation, invalidation_answer, naming, read_answer, read_ended,
     renewal_request, write_answer, write_ended, write_request,
 };
 use field_bench::{Place, expect_same, with_a_write};
@@ -125,7 +125,7 @@ fn servers_go_on_without_it(rt: HostRuntime) -> Result<(), Fail> {
     bench.put_state(1, asking(2, 0, 0)?);
     for message in [
         renewal_request(0, 0, Parts::Both, 0, 0),
-        Renewal::of_both(FIRST, 0).answer(0, 0, 0),
+        Grant::of_both(FIRST, 0).answer(0, 0, 0),
         invalidation(0, 0, 0, FIRST),
         invalidation_answer(0, 0, Pairs::empty()),
     ] {

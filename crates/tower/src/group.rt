@@ -5,13 +5,13 @@ use rules::Message;
 // the first. No range of the library, which is not Copy: a group is handed on more than once.
 #[derive(Clone, Copy)]
 pub(crate) struct Group {
-    pub(crate) first: usize,
-    pub(crate) last: usize,
+    pub(crate) first: u64,
+    pub(crate) last: u64,
 }
 
 impl Group {
     // How many messages these are.
-    pub(crate) fn len(self) -> usize {
+    pub(crate) fn len(self) -> u64 {
         self.last.saturating_add(1).saturating_sub(self.first)
     }
 }

@@ -30,7 +30,7 @@ const SECOND: u8 = 9;
 // What waits at the tower while it is cut off: a read, and the renewal requests that it led to.
 #[derive(Clone, Copy)]
 struct Waiting {
-    read: usize,
+    read: u64,
     renewals: Group,
 }
 
@@ -173,7 +173,7 @@ fn renew_once(rt: &impl Print, site: &mut Site) -> Result<()> {
     )?;
     let first = site.read(rt, TOWER, 0)?;
     ensure!(
-        first.renewals == SERVERS as usize,
+        first.renewals == SERVERS as u64,
         "the lease was not renewed"
     );
     for object in 1..OBJECTS {

@@ -33,7 +33,7 @@ pub(crate) struct Site {
 pub(crate) struct Reading {
     pub(crate) version: Version,
     // how many renewals the tower asked for
-    pub(crate) renewals: usize,
+    pub(crate) renewals: u64,
 }
 
 // What came of the messages that were delivered.
@@ -94,14 +94,14 @@ impl Site {
     }
 
     // The messages that were made after so many.
-    fn made_after(&self, before: usize) -> Group {
+    fn made_after(&self, before: u64) -> Group {
         Group {
             first: before.saturating_add(1),
             last: self.field.messages_made(),
         }
     }
 
-    fn hand(&mut self, number: usize) -> Result<Delivery> {
+    fn hand(&mut self, number: u64) -> Result<Delivery> {
         Ok(
             self.field
                 .deliver(&mut self.log, &mut self.table, &self.systems, number)?,
@@ -127,10 +127,10 @@ impl Site {
     pub(crate) fn deliver(&mut self, rt: &impl Print, group: Group, which: Which) -> Result<Step> {
         let before = self.field.messages_made();
         // counted by hand: an iterator that looks for the messages to deliver would keep the log lent
-        let mut count: usize = 0;
+        let mut count: u64 = 0;
         let mut ended = Delivery::NothingEnded;
         for number in group.first..=group.last {
-            let Some(message) = self.log.get(number.saturating_sub(1)) else {
+            let Some(message) = self.log.get(number.saturating_sub(1) as usize) else {
                 bail!("there is no message {number}");
             };
             if !which.takes(message) {
@@ -163,14 +163,14 @@ impl Site {
     }
 
     // Begins a read of which one tower alone is asked, and gives the message that asks it.
-    pub(crate) fn begin_read(&mut self, tower: u8, object: u8) -> Result<usize> {
+    pub(crate) fn begin_read(&mut self, tower: u8, object: u8) -> Result<u64> {
         let before = self.field.messages_made();
         self.field.begin_read(&mut self.log, &mut self.table, &self.systems, object as u64)?;
-        Ok(before.saturating_add(tower as usize + 1))
+        Ok(before.saturating_add(tower as u64 + 1))
     }
 
     // A tower is asked, and answers or asks for renewals, which is told.
-    pub(crate) fn ask(&mut self, rt: &impl Print, request: usize) -> Result<Group> {
+    pub(crate) fn ask(&mut self, rt: &impl Print, request: u64) -> Result<Group> {
         let before = self.field.messages_made();
         self.hand(request)?;
         let made = self.made_after(before);
@@ -185,7 +185,7 @@ impl Site {
     pub(crate) fn pursue(
         &mut self,
         rt: &impl Print,
-        request: usize,
+        request: u64,
         object: u8,
     ) -> Result<Reading> {
         let mut made = self.ask(rt, request)?;
@@ -212,8 +212,8 @@ impl Site {
     }
 
     // A message in words, if it asks for a renewal.
-    fn renewal(&self, number: usize) -> Option<Told<'_>> {
-        let message = self.log.get(number.saturating_sub(1))?;
+    fn renewal(&self, number: u64) -> Option<Told<'_>> {
+        let message = self.log.get(number.saturating_sub(1) as usize)?;
         match message {
             Message::RenewalRequest { .. } => Some(Told::new(number, message)),
             _ => None,
@@ -222,7 +222,7 @@ impl Site {
 }
 
 // Ends a line that tells one message of so many, and says what ended.
-fn end_line(rt: &impl Print, count: usize, ended: Delivery) -> Result<()> {
+fn end_line(rt: &impl Print, count: u64, ended: Delivery) -> Result<()> {
     match count {
         0 => println!(rt; "  no message")?,
         1 => println!(rt)?,

@@ -9,12 +9,12 @@ use std::fmt;
 // the message has, there is a line for it.
 #[derive(Clone, Copy)]
 pub struct Told<'a> {
-    number: usize,
+    number: u64,
     message: &'a Message,
 }
 
 impl<'a> Told<'a> {
-    pub fn new(number: usize, message: &'a Message) -> Told<'a>
+    pub fn new(number: u64, message: &'a Message) -> Told<'a>
         ensures number { result.number ≡ number }
         ensures message { result.message.now ≡ message.now }
     {

@@ -71,13 +71,13 @@ impl Stage {
     pub(crate) fn deliver(
         &mut self,
         rt: &impl Print,
-        number: usize,
+        number: u64,
         expected: Delivery,
     ) -> Result<()> {
         let delivery = self
             .field
             .deliver(&mut self.log, &mut self.table, &self.systems, number)?;
-        if let Some(message) = self.log.get(number.saturating_sub(1)) {
+        if let Some(message) = self.log.get(number.saturating_sub(1) as usize) {
             let told = Told::new(number, message);
             println!(rt; "  {told}")?;
         }
