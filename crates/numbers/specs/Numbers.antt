@@ -77,9 +77,9 @@ longer t to = if nat_lt t.0 to.0 then to else t
 abbrev pub live : Time → Time → Bool
 live clock end = nat_lt clock.0 end.0
 
--- where a lease ends at the output server that asked for it at `stamp`
+-- where a lease that lasts so many microseconds ends at the output server that asked for it at `stamp`
 abbrev pub lease_end : ℕ → ℕ → ℕ → Time
-lease_end stamp length drift = record { 0 = stamp + length * (1000 - drift) / 1000 }
+lease_end stamp micros drift = record { 0 = stamp + micros * (1000 - drift) / 1000 }
 
 -- a clock that moved by x kept up with one that moved by y
 abbrev pub keeps_pair : ℕ → ℕ → ℕ → Bool

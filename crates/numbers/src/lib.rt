@@ -14,7 +14,10 @@ mod time;
 mod version;
 
 pub use epoch::Epoch;
-pub use kinds::{InputIndex, InputNumber, ObjectCount, ObjectIndex, ObjectNumber, ObjectTotal, OutputIndex, OutputNumber, ServerCount, ServerTotal};
+pub use kinds::{
+    InputIndex, InputNumber, ObjectCount, ObjectIndex, ObjectNumber, ObjectTotal, OutputIndex,
+    OutputNumber, ServerCount, ServerTotal,
+};
 pub use moment::{Drift, LeaseLength, Moment};
 pub use numbering::{Kind, Number};
 pub use operation_number::OperationNumber;

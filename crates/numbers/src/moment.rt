@@ -6,17 +6,21 @@ use crate::out_of_range::OutOfRange;
 use crate::time::Time;
 
 /// A time that a clock can show, in microseconds: 0 to 2^40.
+// The fields of these types are public, to be named in promises: whoever makes such a value or sets
+// its field owes the proof of its range.
 #[derive(Clone, Copy, Debug, PartialEq, Eq)]
 pub struct Moment {
-    micros: u64,
-    ghost shown: { micros ≤ last_time },
+    /// The time in microseconds: 0 to 2^40.
+    pub micros: u64,
+    pub ghost shown: { micros ≤ last_time },
 }
 
 /// How long a lease lasts, in microseconds: 0 to 1,000,000,000.
 #[derive(Clone, Copy, Debug, PartialEq, Eq)]
 pub struct LeaseLength {
-    micros: u32,
-    ghost short: { micros ≤ longest },
+    /// The length in microseconds: 0 to 1,000,000,000.
+    pub micros: u32,
+    pub ghost short: { micros ≤ longest },
 }
 
 /// The most by which two clocks may disagree about how much time has passed, in thousandths: 0 to
@@ -24,8 +28,9 @@ pub struct LeaseLength {
 // Moment, length and drift are of three widths: a generic would want a trait of widths besides.
 #[derive(Clone, Copy, Debug, PartialEq, Eq)]
 pub struct Drift {
-    thousandths: u16,
-    ghost small: { thousandths ≤ highest_drift },
+    /// The drift in thousandths: 0 to 999.
+    pub thousandths: u16,
+    pub ghost small: { thousandths ≤ highest_drift },
 }
 
 /// Refused is any time above 2^40.

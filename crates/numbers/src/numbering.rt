@@ -15,11 +15,13 @@ pub trait Kind {
 
 /// A number that was checked once: it is below the limit of its kind. Numbers of two kinds are of
 /// two types, and are never mixed.
+// Public to be named in promises: whoever makes a number or sets it owes the proof of its range.
 #[derive_where(Debug, PartialEq, Eq, PartialOrd, Ord)]
 pub struct Number<K: Kind> {
-    number: u8,
+    /// The number, below the limit of its kind.
+    pub number: u8,
     kind: PhantomData<K>,
-    ghost inside: { number < K.LIMIT },
+    pub ghost inside: { number < K.LIMIT },
 }
 
 // By hand: a derive would ask that the kind, which is no value, can be copied.

@@ -4,13 +4,17 @@ ghost use Rattle.numbers.specs.Numbers.{between, last_operation};
 
 use crate::out_of_range::OutOfRange;
 
-/// The number of an operation, 1 to 1,024. Operations are numbered in the order in which they begin.
+/// The number of an operation, 1 to 1,024. Operations are numbered in the order in which they
+/// begin.
+// Public to be named in promises: whoever makes a number or sets it owes the proof of its range.
 #[derive(Clone, Copy, Debug, PartialEq, Eq, PartialOrd, Ord)]
 pub struct OperationNumber {
-    number: u16,
-    ghost inside: { (1 ≤ number) × (number ≤ 1024) },
+    /// The number, 1 to 1,024.
+    pub number: u16,
+    pub ghost inside: { (1 ≤ number) × (number ≤ 1024) },
 }
 
+/// Refused are 0 and any number above 1,024.
 impl TryFrom<u16> for OperationNumber {
     type Error = OutOfRange;
 
