@@ -31,7 +31,11 @@ abbrev pub no_held : Held
 no_held = record { version = none; value = 0; last_read = none }
 
 abbrev pub no_ledger : Ledger
-no_ledger = record { last_acknowledged = []; epoch = record { 0 = 0 }; lease_end = record { 0 = 0 } }
+no_ledger = record {
+  last_acknowledged = [];
+  epoch = record { 0 = 0 };
+  lease_end = record { 0 = 0 };
+}
 
 -- ---- words
 
@@ -74,7 +78,8 @@ queued x (p ∷ ps) = if p.object == x.object then x ∷ ps else p ∷ queued x 
 -- the chain without the object's record, if its version is not above v
 abbrev pub freed : ℕ → Version → List Pair → List Pair
 freed o v [] = []
-freed o v (p ∷ ps) = if p.object == o && nat_le p.version.0 v.0 then freed o v ps else p ∷ freed o v ps
+freed o v (p ∷ ps) =
+    if p.object == o && nat_le p.version.0 v.0 then freed o v ps else p ∷ freed o v ps
 
 -- the records in use
 abbrev pub used : List (List Pair) → ℕ
@@ -96,7 +101,10 @@ answers_clock i p I = ClockAnswer i p I.lc ∷ []
 unfoldable pub takes_write : ℕ → Version → ℕ → Input → Input
 takes_write o v x I =
     if nat_lt (held I o).version.0 v.0
-    then record I { lc = max I.lc (clock_of v); objects = slice_set I.objects o (record (held I o) { version = v; value = x }) }
+    then record I {
+      lc = max I.lc (clock_of v);
+      objects = slice_set I.objects o (record (held I o) { version = v; value = x });
+    }
     else I
 
 -- j has to be told of a write of o
@@ -161,25 +169,30 @@ abbrev pub answers_renewal : ℕ → ℕ → ℕ → Renewal → Input → List 
 answers_renewal i lease j r I = RenewalAnswer i j (renewed lease j r I) ∷ []
 
 abbrev pub after_renewal : ℕ → ℕ → Renewal → Input → Input
-after_renewal lease j r I = record I {
-  objects =
-      if asks_object r.parts
-      then slice_set I.objects r.object (record (held I r.object) { last_read = (held I r.object).version })
-      else I.objects;
-  ledgers =
-      if grants r.parts j I
-      then slice_set I.ledgers j (record (ledger I j) { lease_end = record { 0 = I.clock.0 + lease } })
-      else I.ledgers;
-}
+after_renewal lease j r I =
+    let h : Held = held I r.object in
+    let end : Time = record { 0 = I.clock.0 + lease } in
+    record I {
+      objects =
+          if asks_object r.parts
+          then slice_set I.objects r.object (record h { last_read = h.version })
+          else I.objects;
+      ledgers =
+          if grants r.parts j I
+          then slice_set I.ledgers j (record (ledger I j) { lease_end = end })
+          else I.ledgers;
+    }
 
 -- ---- invalidation answer
 
 -- raise what j acknowledged, and free the record that this covers
 abbrev pub acknowledges : ℕ → Pair → Input → Input
 acknowledges j x I =
-    let acked : Version = raised (slice_index_or (ledger I j).last_acknowledged x.object none) x.version in
+    let l : Ledger = ledger I j in
+    let acked : Version = raised (slice_index_or l.last_acknowledged x.object none) x.version in
+    let known : List Version = slice_set l.last_acknowledged x.object acked in
     record I {
-      ledgers = slice_set I.ledgers j (record (ledger I j) { last_acknowledged = slice_set (ledger I j).last_acknowledged x.object acked });
+      ledgers = slice_set I.ledgers j (record l { last_acknowledged = known });
       waiting = slice_set I.waiting j (freed x.object acked (chain I j));
     }
 
@@ -194,7 +207,11 @@ first_input clock = record {
   clock = clock;
   lc = 1;
   objects = replicate 16 (record { version = starting; value = 0; last_read = none });
-  ledgers = replicate 8 (record { last_acknowledged = replicate 16 none; epoch = record { 0 = 1 }; lease_end = record { 0 = 0 } });
+  ledgers = replicate 8 (record {
+    last_acknowledged = replicate 16 none;
+    epoch = record { 0 = 1 };
+    lease_end = record { 0 = 0 };
+  });
   waiting = replicate 8 [];
 }
 

@@ -1,5 +1,5 @@
 -- A message's list of pairs, and what goes through numbers in rising order.
-use Rattle.std.specs.Prelude.{ℕ, zero, suc, cond, List, [], ◌++◌, length, take, replicate, Some, None, Option, nat_lt, slice_index_or}
+use Rattle.std.specs.Prelude.{ℕ, zero, suc, if◌then◌else◌, List, [], ◌++◌, length, take, replicate, Some, None, Option, nat_lt, slice_index_or}
 use Rattle.std.proofs.lemmas.List.Edits.{sets}
 use Rattle.rules.specs.declared.pairs.Pair.{Pair}
 use Rattle.rules.specs.declared.pairs.Pairs.{Pairs}
@@ -13,7 +13,8 @@ list_of l = take l.count l.items
 
 -- the pair at a place from 0 on, where there is one
 abbrev pub pair_at : ℕ → Pairs → Option Pair
-pair_at k l = cond (nat_lt k (length (list_of l))) (Some (slice_index_or (list_of l) k no_pair)) None
+pair_at k l =
+    if nat_lt k (length (list_of l)) then Some (slice_index_or (list_of l) k no_pair) else None
 
 -- the list of at most 8 pairs
 abbrev pub pairs : List Pair → Pairs

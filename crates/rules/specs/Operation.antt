@@ -17,7 +17,8 @@ pub record Asking : Type 0 where
   pub senders : ℕ
   pub clock : ℕ
 
--- a write that sends its version: for each input server, the output servers that it named as shut out
+-- a write that sends its version: for each input server, the output servers that it named as shut
+-- out
 pub record Sending : Type 0 where
   pub operation : ℕ
   pub object : ℕ
@@ -94,7 +95,8 @@ counts inputs n named j = inputs.writes (set_of n (λ i. has (named_by named i) 
 
 -- the output servers below m that count are a write set
 abbrev pub is_written : System → System → Sending → Bool
-is_written inputs outputs w = outputs.writes (set_of outputs.count (counts inputs inputs.count w.named))
+is_written inputs outputs w =
+    outputs.writes (set_of outputs.count (counts inputs inputs.count w.named))
 
 -- ---- read answer from output server j
 

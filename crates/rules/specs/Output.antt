@@ -1,4 +1,5 @@
--- An output server: what it keeps, when it may answer a read, and what it does with each kind of message.
+-- An output server: what it keeps, when it may answer a read, and what it does with each kind of
+-- message.
 use Rattle.std.specs.Prelude.{ℕ, ◌+◌, Bool, if◌then◌else◌, not, ◌&&◌, List, [], ◌∷◌, replicate, ◌==◌, nat_le, nat_lt, slice_index_or, slice_set}
 use Rattle.quorum.specs.Sets.{set_of, all_below}
 use Rattle.quorum.specs.Systems.{System}
@@ -71,7 +72,11 @@ valid inputs n o O = covers O o n && inputs.reads (set_of n (good O o))
 
 -- what is asked of input server i: the object if the copy is not sound, a lease if none is live
 abbrev pub asked : ℕ → Output → ℕ → Renewal
-asked o O i = record { parts = parts_of (not (sound O o i)) (not (leased O i)); object = o; stamp = O.clock }
+asked o O i = record {
+  parts = parts_of (not (sound O o i)) (not (leased O i));
+  object = o;
+  stamp = O.clock;
+}
 
 -- a renewal request to input server i, unless it is good
 abbrev pub asks : ℕ → ℕ → Output → ℕ → List Message
@@ -109,16 +114,18 @@ accepts y l = asks_object y.renewal.parts && nat_le (copy_of l y.renewal.object)
 abbrev pub takes_copy : Renewed → Link → Link
 takes_copy y l =
     let o : ℕ = y.renewal.object in
+    let epoch : Epoch = later (copy_of l o).epoch y.epoch in
     if accepts y l
-    then with_copy o (record { got = y.version; known = y.version; epoch = later (copy_of l o).epoch y.epoch }) l
+    then with_copy o (record { got = y.version; known = y.version; epoch = epoch }) l
     else l
 
 abbrev pub takes_lease : ℕ → Renewed → Link → Link
 takes_lease drift y l =
+    let end : Time = lease_end y.renewal.stamp.0 y.length drift in
     if asks_volume y.renewal.parts
     then record l {
       epoch = later l.epoch y.epoch;
-      lease_end = if nat_lt 0 y.length then longer l.lease_end (lease_end y.renewal.stamp.0 y.length drift) else l.lease_end;
+      lease_end = if nat_lt 0 y.length then longer l.lease_end end else l.lease_end;
     }
     else l
 
@@ -151,7 +158,8 @@ after_invalidation i o v O =
     record O { links = slice_set O.links i (hears (record { object = o; version = v }) (link O i)) }
 
 abbrev pub answers_invalidation : ℕ → ℕ → ℕ → Version → List Message
-answers_invalidation j i o v = InvalidationAnswer j i (pairs (record { object = o; version = v } ∷ [])) ∷ []
+answers_invalidation j i o v =
+    InvalidationAnswer j i (pairs (record { object = o; version = v } ∷ [])) ∷ []
 
 -- ---- the first state
 
@@ -159,7 +167,11 @@ abbrev pub first_output : Time → Output
 first_output clock = record {
   clock = clock;
   newest = replicate 16 no_newest;
-  links = replicate 8 (record { copies = replicate 16 no_copy; epoch = record { 0 = 0 }; lease_end = record { 0 = 0 } });
+  links = replicate 8 (record {
+    copies = replicate 16 no_copy;
+    epoch = record { 0 = 0 };
+    lease_end = record { 0 = 0 };
+  });
 }
 
 abbrev pub later_output : ℕ → Output → Output

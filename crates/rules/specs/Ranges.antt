@@ -25,8 +25,8 @@ pub record Counts : Type 0 where
 
 -- ---- messages
 
--- What testing a number or a value gives: what stands for the same there, just where it is in range, and the refusal 33
--- otherwise.
+-- What testing a number or a value gives: what stands for the same there, just where it is in
+-- range, and the refusal 33 otherwise.
 abbrev pub TestsRange : {A B : Type 0} → (A → B) → Bool → B → Result A Refusal → Type 0
 TestsRange of fits x (Ok a) = (fits ≡ true) × (of a ≡ x)
 TestsRange of fits x (Err e) = (fits ≡ false) × (e ≡ OutOfRange)
@@ -85,7 +85,8 @@ named_in (ReadRequest p j o) = Some p
 named_in (ReadAnswer j p v x) = Some p
 named_in m = None
 
--- the operation that a message names: it is known, begun and in range, and a clock answer leaves it room for a version
+-- the operation that a message names: it is known, begun and in range, and a clock answer leaves it
+-- room for a version
 abbrev pub operation_fits : (ℕ → Bool) → (ℕ → Bool) → Message → Bool
 operation_fits known room (ClockAnswer i p clock) = known p && room p
 operation_fits known room m = option_map_or known (named_in m) true
@@ -95,13 +96,22 @@ operation_fits known room m = option_map_or known (named_in m) true
 -- output servers below m for the input servers below n, and nothing for the others
 unfoldable pub named_fit : Counts → ℕ → List MemberSet → Bool
 named_fit c n named =
-    all_below n (λ i. if nat_lt i c.n then nat_lt (named_by named i) (2 ^ c.m) else (named_by named i == 0))
+    all_below n (λ i.
+    if nat_lt i c.n then nat_lt (named_by named i) (2 ^ c.m) else (named_by named i == 0))
 
 abbrev pub asking_fits : Counts → ℕ → Asking → Bool
-asking_fits c p a = a.operation == p && (nat_lt a.object c.k && (nat_lt a.senders (2 ^ c.n) && nat_le a.clock 65535))
+asking_fits c p a =
+    a.operation == p
+    && (nat_lt a.object c.k
+    && (nat_lt a.senders (2 ^ c.n)
+    && nat_le a.clock 65535))
 
 abbrev pub sending_fits : Counts → ℕ → Sending → Bool
-sending_fits c p w = w.operation == p && (nat_lt w.object c.k && (is_version w.version && named_fit c 8 w.named))
+sending_fits c p w =
+    w.operation == p
+    && (nat_lt w.object c.k
+    && (is_version w.version
+    && named_fit c 8 w.named))
 
 abbrev pub reading_fits : Counts → ℕ → Reading → Bool
 reading_fits c p r =

@@ -1,5 +1,5 @@
 -- What an operation makes of a message that it is handed.
-use Rattle.std.specs.Prelude.{ℕ, List, [], if◌then◌else◌}
+use Rattle.std.specs.Prelude.{List, [], if◌then◌else◌, ℕ}
 use Rattle.quorum.specs.Systems.{System}
 use Rattle.rules.specs.declared.message.Message.{Message}
 use Rattle.rules.specs.declared.message.Message.TheVariants.{ClockAnswer, WriteAnswer, ReadAnswer}
@@ -18,8 +18,11 @@ goes_on x = record { next = x; sends = []; said = nothing_ended }
 
 -- it sends its version to every input server
 abbrev pub sends_version : System → Sending → Reaction
-sends_version inputs w =
-    record { next = sending w; sends = write_requests inputs.count w; said = nothing_ended }
+sends_version inputs w = record {
+  next = sending w;
+  sends = write_requests inputs.count w;
+  said = nothing_ended;
+}
 
 -- it has ended
 abbrev pub ends_with : Said → Reaction
@@ -33,15 +36,15 @@ asks_next inputs a =
 
 abbrev pub sends_next : System → System → ℕ → Sending → Reaction
 sends_next inputs outputs p w =
-    if is_written inputs outputs w then ends_with (write_ended p w.version.0 w.value)
+    if is_written inputs outputs w
+    then ends_with (write_ended p w.version.0 w.value)
     else goes_on (sending w)
 
 abbrev pub reads_next : System → ℕ → Reading → Reaction
 reads_next outputs p r =
     if is_read outputs r then ends_with (read_ended p r.version.0 r.value) else goes_on (reading r)
 
--- What an operation in that state makes of a message. Any other message has no effect, and none has one on an
--- operation that ended
+-- any other message has no effect, and no message has on an operation that ended
 abbrev pub reacts : System → System → Message → Operation → Reaction
 reacts inputs outputs (ClockAnswer i p c) (asking a) = asks_next inputs (hears_clock i c a)
 reacts inputs outputs (WriteAnswer i p t) (sending w) =

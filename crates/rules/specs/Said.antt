@@ -1,5 +1,5 @@
--- What a call says. A refusal is known by its number; the end of an operation has its number, version and
--- value.
+-- What a call says. A refusal is known by its number; the end of an operation has its number,
+-- version and value.
 use Rattle.std.specs.Prelude.{ℕ}
 
 pub data Said : Type 0 where

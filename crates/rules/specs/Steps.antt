@@ -1,5 +1,5 @@
--- What a step of one server leaves: the server, the log, and how many messages are made then. A step that refuses
--- leaves server and log as they were.
+-- What a step of one server leaves: the server, the log, and how many messages are made then. A
+-- step that refuses leaves server and log as they were.
 use Rattle.std.specs.Prelude.{◌≡◌, ℕ, ◌+◌, Bool, if◌then◌else◌, List, length, Ok, Err, Result, nat_le}
 use Rattle.std.proofs.lemmas.List.Edits.{sets}
 use Rattle.quorum.specs.declared.refusal.Refusal.{Refusal}
@@ -28,7 +28,11 @@ step r a log = record { said = step_says log.made r; server = a; log = log.messa
 
 -- the step is taken: the server becomes b, and messages are logged after those made before
 abbrev pub steps : {A : Type 0} → A → List Message → ℕ → List Message → ServerStep A
-steps b new made log = record { said = made_now (made + length new); server = b; log = sets log made new }
+steps b new made log = record {
+  said = made_now (made + length new);
+  server = b;
+  log = sets log made new;
+}
 
 abbrev pub stays : {A : Type 0} → ℕ → A → List Message → ServerStep A
 stays number a log = record { said = refused number; server = a; log = log }

@@ -1,4 +1,5 @@
-// How many servers and objects a field has, and which messages have all their numbers in range of these.
+// How many servers and objects a field has, and which messages have all their numbers in range of
+// them.
 ghost use Rattle.std.specs.Prelude.{◌≡◌, ℕ, ◌≤◌, ◌&&◌, is_none, is_some, ◌||◌, nat_lt};
 ghost use Rattle.numbers.specs.Numbers.{between};
 ghost use Rattle.rules.specs.Counts.{counts_of};
@@ -53,8 +54,8 @@ impl Counts {
         numbered(number, self.objects.get())
     }
 
-    /// Both ends of a message between two servers, and what it carries. Refuses 33 where there is no such
-    /// server, or where a number of what is carried is out of range.
+    /// Both ends of a message between two servers, and what it carries. Refuses 33 where there is
+    /// no such server, or where a number of what is carried is out of range.
     pub fn between<T: Ranged>(
         self,
         input: u8,
@@ -105,7 +106,8 @@ impl Counts {
 
     // The same of a message from or to an operation; every other message passes.
     fn fit_operation(self, message: &Message) -> bool
-        ensures { result ≡ (is_none (named_in message.now) || numbers_fit (counts_of self) message.now) }
+        ensures { result
+            ≡ (is_none (named_in message.now) || numbers_fit (counts_of self) message.now) }
     {
         match message {
             Message::ClockQuestion { input, .. } => self.has_input(*input),
@@ -137,7 +139,8 @@ impl Counts {
 
     // The same of a message between two servers; every other message passes.
     fn fit_servers(self, message: &Message) -> bool
-        ensures { result ≡ (is_some (named_in message.now) || numbers_fit (counts_of self) message.now) }
+        ensures { result
+            ≡ (is_some (named_in message.now) || numbers_fit (counts_of self) message.now) }
     {
         match message {
             Message::RenewalRequest {

@@ -11,7 +11,8 @@ use numbers::{Kind, LeaseLength, Moment, ObjectCount, ObjectIndex, ObjectNumber,
 use quorum::Refusal;
 use std::alloc::AllocError;
 
-/// What a message carries whose numbers have ranges. Those of objects depend on how many a field has.
+/// What a message carries whose numbers have ranges. Those of objects depend on how many a field
+/// has.
 pub trait Ranged: Copy {
     /// Whether its numbers are in range, in a field of so many objects.
     ghost fits: { ℕ → Self → Bool };
@@ -29,7 +30,7 @@ pub trait Ranged: Copy {
 pub struct InRange<T: Ranged> {
     /// The value as a message carries it.
     pub value: T,
-    ghost inside: { T.fits 16 value ≡ true },
+    pub ghost inside: { T.fits 16 value ≡ true },
 }
 
 // By hand: no derive copies a range that was tested.
@@ -44,8 +45,8 @@ impl<T: Ranged> Clone for InRange<T> {
 impl<T: Ranged> Copy for InRange<T> {}
 
 impl<T: Ranged> InRange<T> {
-    /// Tests the numbers of a value that belongs to no field: objects are held to 16. Refuses 33 where one is
-    /// out of range.
+    /// Tests the numbers of a value that belongs to no field: objects are held to 16. Refuses 33
+    /// where one is out of range.
     pub fn alone(value: T) -> Result<InRange<T>, Refusal>
         ensures { TestsRange (λ r. r.value) (T.fits 16 value) value result }
     {
@@ -53,8 +54,8 @@ impl<T: Ranged> InRange<T> {
         InRange::new(value, objects)
     }
 
-    /// Tests the numbers of a value, as those of a field of so many objects. Refuses 33 where one is out
-    /// of range.
+    /// Tests the numbers of a value, as those of a field of so many objects. Refuses 33 where one
+    /// is out of range.
     pub fn new(value: T, objects: ObjectCount) -> Result<InRange<T>, Refusal>
         ensures { TestsRange (λ r. r.value) (T.fits objects.number value) value result }
     {

@@ -1,4 +1,5 @@
-// The messages and records of the subject, and the rules of the whole field as definitions (specs/).
+//! The messages of a field, what its servers keep, and what it is lent; in `specs/` the rules of
+//! the whole field as definitions.
 #![tactic(auto)]
 
 mod counts;
