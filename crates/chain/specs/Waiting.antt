@@ -31,7 +31,8 @@ waiting_for c j = slice_index_or (waiting_of c) j []
 abbrev pub has_free : List (List Pair) → Bool
 has_free cs = nat_lt (used cs) records
 
--- the place of the record that names object o in the chain of output server j, or the place behind the last record if none does
+-- the place of the record that names object o in the chain of output server j, or the place behind
+-- the last record if none does
 pub record Found (c : Chains) (j o : ℕ) (p : Place) : Type 0 where
   pub stands : Stands c.records (slice_index c.heads j) o p.before p.here
   pub before_fits : p.before ≤ records
@@ -41,5 +42,6 @@ pub record Found (c : Chains) (j o : ℕ) (p : Place) : Type 0 where
 
 -- queueing pair x for output server j turned the lists cs into ds, and said this
 abbrev pub Queues : Queued → Pair → ℕ → List (List Pair) → List (List Pair) → Type 0
-Queues Waits x j cs ds = (fits x j cs ≡ true) × (ds ≡ slice_set cs j (queued x (slice_index_or cs j [])))
+Queues Waits x j cs ds =
+    (fits x j cs ≡ true) × (ds ≡ slice_set cs j (queued x (slice_index_or cs j [])))
 Queues Freed x j cs ds = (fits x j cs ≡ false) × (ds ≡ slice_set cs j [])

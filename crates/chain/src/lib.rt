@@ -1,5 +1,5 @@
-// The invalidations that wait at one input server, in one chain for each output server. The chains
-// share a fixed number of records.
+//! The invalidations that wait at one input server, in one chain for each output server. The chains
+//! share 64 records.
 #![tactic(auto)]
 
 mod chains;

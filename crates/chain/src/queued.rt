@@ -1,8 +1,11 @@
-// What became of a pair that was to be queued: it waits, or the records ran out, and all that waited
-// for its output server was dropped. It is no Result, since neither case is an error.
+/// What became of a pair that was to be queued.
+// No Result, since neither case is an error.
 #[derive(Drop)]
 #[must_use]
 pub enum Queued {
+    /// It waits for its output server.
     Waits,
+    /// No record was free: all that waited for its output server was dropped, and the pair does not
+    /// wait.
     Freed,
 }

@@ -32,8 +32,8 @@ fn link(
 }
 
 impl Chains {
-    // Nothing waits, and every record is free: the last one first, and each leads to the one below
-    // it.
+    /// Chains in which nothing waits.
+    // Every record is free: the last one first, and each leads to the one below it.
     pub fn new() -> Chains
         ensures { waiting_of result ≡ replicate 8 [] }
     {
@@ -48,8 +48,11 @@ impl Chains {
         }
     }
 
-    // The pair waits for the output server: in the record of its object, else in a free record at
-    // the end of the chain. Where none is free, the whole chain is freed, and nothing is queued.
+    /// Lets the pair wait for the output server.
+    ///
+    /// Where a version of its object waits already, the pair takes its place, whatever the two
+    /// versions are. Otherwise it waits behind all others. Where no record is free for it, nothing
+    /// waits for that output server any more, and `Queued::Freed` says so.
     pub fn queue(&mut self, output: OutputNumber, pair: Pair) -> Queued
         ensures { Queues result pair output.number (waiting_of self.old) (waiting_of self.new) }
     {
@@ -72,7 +75,9 @@ impl Chains {
         requires behind { place.here ≡ 0 }
         requires spare { 0 < self.old.free }
         ensures room { has_free (waiting_of self.old) ≡ true }
-        ensures after { waiting_of self.new ≡ slice_set (waiting_of self.old) output.number (queued pair (waiting_for self.old output.number)) }
+        ensures after { let j = output.number in
+            waiting_of self.new
+            ≡ slice_set (waiting_of self.old) j (queued pair (waiting_for self.old j)) }
     {
         let spare = self.free;
         let record = &mut self.records[spare as usize - 1];
@@ -104,10 +109,13 @@ impl Chains {
         self.heads[number] = END;
     }
 
-    // The output server knows the object up to that version, and is no more to be told of it. What
-    // waits with a higher version stays.
+    /// The output server knows the object up to that version, and no longer has to be told of it.
+    /// What waits with a higher version stays. Any object may be asked for: one that does not wait
+    /// changes nothing.
     pub fn acknowledge(&mut self, output: OutputNumber, object: u8, version: Version)
-        ensures { waiting_of self.new ≡ slice_set (waiting_of self.old) output.number (freed object version (waiting_for self.old output.number)) }
+        ensures { let j = output.number in
+            waiting_of self.new
+            ≡ slice_set (waiting_of self.old) j (freed object version (waiting_for self.old j)) }
     {
         let place = self.find(output, object);
         if place.here == END {

@@ -11,7 +11,8 @@ use numbers::OutputNumber;
 use rules::{MOST_PAIRS, Pair, Pairs};
 
 // A place in a chain: the number of the record there, or END behind the last one, and the number of
-// the record before it, or END at the first one. END, and no Option, as in the records that it links.
+// the record before it, or END at the first one. END, and no Option, as in the records that it
+// links.
 #[derive(Clone, Copy)]
 pub(super) struct Place {
     pub(super) before: u8,
@@ -57,9 +58,11 @@ impl Chains {
     // What waits for the output server.
     #[tactic(auto, using(crate::proofs::Lines::on_start, crate::proofs::Lines::length_line, crate::proofs::Meanings::waiting_at))]
     fn waiting(&self, output: OutputNumber) -> Waiting<'_>
-        ensures is { line result.records.now result.here ≡ line self.now.records (slice_index self.now.heads output.number) }
+        ensures is { line result.records.now result.here
+            ≡ line self.now.records (slice_index self.now.heads output.number) }
         ensures short { length (line result.records.now result.here) ≤ records }
-        ensures waits { waiting_for self.now output.number ≡ pairs_along (line result.records.now result.here) }
+        ensures waits { waiting_for self.now output.number
+            ≡ pairs_along (line result.records.now result.here) }
     {
         Waiting {
             records: &self.records,
@@ -86,15 +89,16 @@ impl Chains {
         Place { before, here: END }
     }
 
-    // How many invalidations wait for the output server.
+    /// How many invalidations wait for the output server: 0 to 64.
     pub fn len(&self, output: OutputNumber) -> u8
         ensures { result ≡ length (waiting_for self.now output.number) }
     {
         self.waiting(output).count() as u8
     }
 
-    // The first invalidations that wait for the output server, as many as a list shows.
-    // No heap, so nothing to collect them in: they are put one by one into the list, which keeps its own count.
+    /// The first invalidations that wait for the output server: all of them, or 8 where more wait.
+    // No heap, so nothing to collect them in: they are put one by one into the list, which keeps
+    // its own count.
     pub fn first(&self, output: OutputNumber) -> Pairs
         ensures { result ≡ pairs (take shown (waiting_for self.now output.number)) }
     {
