@@ -57,12 +57,12 @@ asked_for parts stamp = record { parts = parts; object = 0; stamp = record { 0 =
 
 -- an answer that brings a lease and a list, and no object
 abbrev pub leased : ℕ → ℕ → ℕ → List Pair → Renewed
-leased stamp epoch length ps = record {
+leased stamp epoch micros ps = record {
   renewal = asked_for Volume stamp;
   version = none;
   value = 0;
   epoch = record { 0 = epoch };
-  length = length;
+  length = micros;
   list = pairs ps;
 }
 

@@ -50,8 +50,8 @@ opens drift = opening (majority 1) (read_one_write_all 1) 1 1000 drift (zeros 2)
 
 -- an output server whose clock shows that time, and which took one renewal answer of the volume with that stamp and length
 abbrev pub renewed : ℕ → ℕ → ℕ → ℕ → Output
-renewed stamp length drift time =
-    after_answer drift 0 (lease_of stamp 1 length []) (first_output (record { 0 = time }))
+renewed stamp micros drift time =
+    after_answer drift 0 (lease_of stamp 1 micros []) (first_output (record { 0 = time }))
 
 -- ---- writes
 
@@ -82,12 +82,12 @@ first_pairs count = each count (λ o. pair o (version_of 2 (o + 1)).0 ∷ [])
 
 -- and an answer to output server 0, stamped 500, of object 0, with that length and so many of the pairs
 abbrev pub answer_with : ℕ → ℕ → Message
-answer_with length count = RenewalAnswer 0 0 (record {
+answer_with micros count = RenewalAnswer 0 0 (record {
   renewal = asked_for Both 500;
   version = version_of 2 1;
   value = 7;
   epoch = record { 0 = 1 };
-  length = length;
+  length = micros;
   list = pairs (first_pairs count);
 })
 
@@ -100,13 +100,16 @@ Holds (members_are_enough system count answer) =
 Holds (advance_is_answered drift increments says) =
     ((opens drift).said ≡ accepted)
     × ((advancing (majority 1) (read_one_write_all 1) increments (opens drift).after).said ≡ says)
-Holds (lease_ends_at stamp length drift end) =
-    ((lease_end stamp length drift).0 ≡ end) × ((link (renewed stamp length drift stamp) 0).lease_end.0 ≡ end)
-Holds (lease_is_live stamp length drift time answer) =
-    (live (record { 0 = time }) (lease_end stamp length drift) ≡ answer) × (leased (renewed stamp length drift time) 0 ≡ answer)
-Holds (lease_is_never_live stamp length drift) =
+Holds (lease_ends_at stamp micros drift end) =
+    ((lease_end stamp micros drift).0 ≡ end)
+    × ((link (renewed stamp micros drift stamp) 0).lease_end.0 ≡ end)
+Holds (lease_is_live stamp micros drift time answer) =
+    (live (record { 0 = time }) (lease_end stamp micros drift) ≡ answer)
+    × (leased (renewed stamp micros drift time) 0 ≡ answer)
+Holds (lease_is_never_live stamp micros drift) =
     (time : ℕ) → stamp ≤ time
-    → (live (record { 0 = time }) (lease_end stamp length drift) ≡ false) × (leased (renewed stamp length drift time) 0 ≡ false)
+    → (live (record { 0 = time }) (lease_end stamp micros drift) ≡ false)
+    × (leased (renewed stamp micros drift time) 0 ≡ false)
 Holds (write_has_ended inputs outputs heard counting answer) =
     (set_of outputs.count (counts inputs inputs.count (hears_each heard sent).named) ≡ counting)
     × (is_written inputs outputs (hears_each heard sent) ≡ answer)
