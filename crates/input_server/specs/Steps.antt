@@ -1,4 +1,5 @@
--- The steps of an input server alone: what each says and leaves. A step that refuses leaves server and log as they were.
+-- The steps of an input server alone: what each says and leaves. A step that refuses leaves server
+-- and log as they were.
 use Rattle.std.specs.Prelude.{ℕ, ◌+◌, if◌then◌else◌, List, nat_le}
 use Rattle.numbers.specs.declared.version.Version.{Version}
 use Rattle.numbers.specs.Numbers.{last_time}
@@ -12,7 +13,9 @@ use Rattle.input_server.specs.Epochs.{have_epochs}
 -- time passes; a clock does not pass the last time
 abbrev pub ticking : ℕ → Input → Said × Input
 ticking increment I =
-    if nat_le (I.clock.0 + increment) last_time then (accepted, later_input increment I) else (refused 12, I)
+    if nat_le (I.clock.0 + increment) last_time
+    then (accepted, later_input increment I)
+    else (refused 12, I)
 
 -- clock question of operation p at input server i
 abbrev pub clock_step : ℕ → ℕ → Input → ℕ → List Message → ServerStep Input
@@ -29,4 +32,5 @@ write_step i p m o v x I made log =
 -- renewal request from output server j
 abbrev pub renewal_step : ℕ → ℕ → ℕ → Renewal → Input → ℕ → List Message → ServerStep Input
 renewal_step i lease j r I made log =
-    with_room I made log (steps (after_renewal lease j r I) (answers_renewal i lease j r I) made log)
+    with_room I made log
+    (steps (after_renewal lease j r I) (answers_renewal i lease j r I) made log)

@@ -10,12 +10,12 @@ use numbers::{OutputNumber, Version};
 use rules::{InRange, Pair, Pairs};
 
 impl InputServer {
-    /// An invalidation answer of an output server: each pair of its list, in order.
+    /// Takes an invalidation answer of an output server: for each pair of its list, in order, what
+    /// the output server acknowledged of the object is raised to that version, and an invalidation
+    /// that waits with no higher version is dropped. It logs nothing and never refuses.
     pub fn take_acknowledgement(&mut self, output: OutputNumber, list: &InRange<Pairs>)
-        ensures does {
-            input_of self.new
-                ≡ acknowledges_all output.number (list_of list.now.value) (input_of self.old)
-        }
+        ensures does { input_of self.new
+            ≡ acknowledges_all output.number (list_of list.now.value) (input_of self.old) }
         ensures same { list_of list.now.value ≡ [] → self.new ≡ self.old }
     {
         self.acknowledge_all(output, list.value.as_slice());
@@ -23,7 +23,8 @@ impl InputServer {
 
     #[tactic(auto, unfolding(rules::specs::Input::acknowledges_all))]
     fn acknowledge_all(&mut self, output: OutputNumber, pairs: &[Pair])
-        ensures does { input_of self.new ≡ acknowledges_all output.number pairs.now (input_of self.old) }
+        ensures does { input_of self.new
+            ≡ acknowledges_all output.number pairs.now (input_of self.old) }
         ensures same { pairs.now ≡ [] → self.new ≡ self.old }
     {
         for pair in pairs {
@@ -44,7 +45,8 @@ impl InputServer {
 // itself, and nothing is raised.
 fn raise_acked(acked: &mut [Version], pair: Pair) -> Version
     ensures says { result ≡ raised (slice_index_or acked.old pair.object none) pair.version }
-    ensures after { acked.new ≡ slice_set acked.old pair.object (raised (slice_index_or acked.old pair.object none) pair.version) }
+    ensures after { let highest = raised (slice_index_or acked.old pair.object none) pair.version in
+        acked.new ≡ slice_set acked.old pair.object highest }
 {
     let place = usize::from(pair.object);
     if place >= acked.len() {

@@ -1,4 +1,4 @@
-// Input servers: they take writes, keep the newest version of each object, and grant leases.
+//! Input servers: they take writes, keep the newest version of each object, and grant leases.
 #![tactic(auto)]
 
 mod acknowledging;
@@ -6,7 +6,6 @@ mod queueing;
 mod renewing;
 mod requests;
 mod server;
-mod steps;
 mod telling;
 
 pub use requests::{RenewalRequest, WriteRequest};

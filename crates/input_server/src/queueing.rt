@@ -14,7 +14,9 @@ impl InputServer {
     // A version above the one held is taken, with its value.
     #[tactic(auto, unfolding(rules::specs::Input::takes_write))]
     pub(crate) fn take_version(&mut self, request: &WriteRequest)
-        ensures { input_of self.new ≡ takes_write request.now.pair.value.object request.now.pair.value.version request.now.value (input_of self.old) }
+        ensures { let p = request.now.pair.value in
+            input_of self.new
+            ≡ takes_write p.object p.version request.now.value (input_of self.old) }
     {
         let place = request.pair.object().index();
         let version = request.pair.value.version;
@@ -65,7 +67,8 @@ impl InputServer {
         ensures { result ≡ owed (input_of self.now) object.number output.number }
     {
         let given = self.objects[object.index()].last_read;
-        given != Version::NONE && self.ledgers[output.index()].last_acknowledged[object.index()] <= given
+        let acknowledged = self.ledgers[output.index()].last_acknowledged[object.index()];
+        given != Version::NONE && acknowledged <= given
     }
 
     // Where the records ran out, nothing waits any more, and a new epoch says so.

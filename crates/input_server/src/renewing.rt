@@ -15,11 +15,9 @@ use rules::{InRange, MOST_PAIRS, Newest, Pairs, Parts, Renewal, Renewed};
 impl InputServer {
     // The lease that is granted, if one is: where all that waits can be told with it.
     pub(crate) fn granted(&self, request: &RenewalRequest) -> Option<LeaseLength>
-        ensures {
-            let r = request.now in
+        ensures { let r = request.now in
             result ≡ (if grants r.renewal.value.parts r.output.number (input_of self.now)
-                then Some r.lease else None)
-        }
+            then Some r.lease else None) }
     {
         let wants_lease = request.renewal.value.parts.has_volume();
         if wants_lease && self.chains.len(request.output) as usize <= MOST_PAIRS {
@@ -31,7 +29,8 @@ impl InputServer {
 
     // What is told with a lease.
     fn waiting_list(&self, output: OutputNumber, parts: Parts) -> Pairs
-        ensures { result ≡ (if asks_volume parts then pairs (take shown (chain (input_of self.now) output.number)) else pairs []) }
+        ensures { let first = take shown (chain (input_of self.now) output.number) in
+            result ≡ (if asks_volume parts then pairs first else pairs []) }
     {
         if parts.has_volume() {
             self.chains.first(output)
@@ -57,18 +56,14 @@ impl InputServer {
         }
     }
 
-    // The answer: the version held and what waits, as far as they were asked for. A lease that is not
-    // granted has the length 0.
+    // The answer: the version held and what waits, as far as they were asked for. A lease that is
+    // not granted has the length 0.
     pub(crate) fn renewed(&self, request: &RenewalRequest, granted: Option<LeaseLength>) -> Renewed
-        requires {
-            let r = request.now in
+        requires { let r = request.now in
             granted ≡ (if grants r.renewal.value.parts r.output.number (input_of self.now)
-                then Some r.lease else None)
-        }
-        ensures {
-            let r = request.now in
-            result ≡ renewed r.lease.micros r.output.number r.renewal.value (input_of self.now)
-        }
+            then Some r.lease else None) }
+        ensures { let r = request.now in
+            result ≡ renewed r.lease.micros r.output.number r.renewal.value (input_of self.now) }
     {
         let renewal = request.renewal.value;
         let given = self.given(&request.renewal);

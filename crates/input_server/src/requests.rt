@@ -6,7 +6,7 @@ use rules::{InRange, Pair, Renewal};
 pub struct WriteRequest {
     /// How many output servers the field has.
     pub outputs: ServerCount,
-    /// The write that sends it.
+    /// The number of the write that sends it.
     pub operation: OperationNumber,
     /// The object that is written, and the version that the write got.
     pub pair: InRange<Pair>,

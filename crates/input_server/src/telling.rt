@@ -12,9 +12,9 @@ use rules::{Log, Message};
 
 impl InputServer {
     // An output server is shut out for an object if it was never given the object, went beyond all
-    // that it was given, acknowledged the version held, or has no lease any more.
-    // The number is a plain one, as the ranges below yield it: an iterator of checked numbers would be a type
-    // of its own, with laws of its own, for a comparison that the check makes alone.
+    // that it was given, acknowledged the version held, or has no lease any more. The number is a
+    // plain one, as the ranges below yield it: an iterator of checked numbers would be a type of
+    // its own, with laws of its own, for a comparison that the check makes alone.
     fn is_shut_out(&self, output: u8, object: ObjectNumber) -> bool
         requires { output < 8 }
         ensures { result ≡ is_shut_out (input_of self.now) object.number output }
@@ -31,8 +31,8 @@ impl InputServer {
     pub(crate) fn shut_out(&self, outputs: ServerCount, object: ObjectNumber) -> MemberSet
         ensures { result.0 ≡ set_of outputs.number (is_shut_out (input_of self.now) object.number) }
     {
-        // gathered here: a function that is handed the test would be public, and have to ask its callers that
-        // the test may be called; no public function asks anything
+        // gathered here: a function that is handed the test would be public, and have to ask its
+        // callers that the test may be called; no public function asks anything
         (0..outputs.get())
             .filter(|output| self.is_shut_out(*output, object))
             .fold(MemberSet::EMPTY, |set, output| set.with(output))
@@ -47,7 +47,8 @@ impl InputServer {
         log: &mut Log,
     )
         requires { log.old.made + 9 ≤ length log.old.messages.now }
-        ensures { Logs log.old log.new (invalidations me.number outputs.number object.number (input_of self.now)) }
+        ensures { let server = input_of self.now in
+            Logs log.old log.new (invalidations me.number outputs.number object.number server) }
     {
         // a loop: of what a closure changes for `for_each`, a proof knows nothing afterwards
         for output in 0..outputs.get() {
@@ -58,7 +59,8 @@ impl InputServer {
     // One to an output server that is not shut out.
     fn tell(&self, me: InputNumber, output: u8, object: ObjectNumber, log: &mut Log)
         requires { (output < 8) × (log.old.made < length log.old.messages.now) }
-        ensures { Logs log.old log.new (invalidation me.number object.number (input_of self.now) output) }
+        ensures { let server = input_of self.now in
+            Logs log.old log.new (invalidation me.number object.number server output) }
     {
         if !self.is_shut_out(output, object) {
             log.push(Message::Invalidation {
