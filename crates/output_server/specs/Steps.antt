@@ -1,4 +1,5 @@
--- The steps of an output server alone: what each says and leaves. A step that refuses leaves server and log as they were.
+-- The steps of an output server alone: what each says and leaves. A step that refuses leaves server
+-- and log as they were.
 use Rattle.std.specs.Prelude.{ℕ, ◌+◌, if◌then◌else◌, List, nat_le, nat_lt}
 use Rattle.quorum.specs.Systems.{System}
 use Rattle.numbers.specs.declared.version.Version.{Version}
@@ -12,7 +13,9 @@ use Rattle.rules.specs.Steps.{ServerStep, steps, stays, with_room}
 -- time passes; a clock does not pass the last time
 abbrev pub ticking : ℕ → Output → Said × Output
 ticking increment O =
-    if nat_le (O.clock.0 + increment) last_time then (accepted, later_output increment O) else (refused 12, O)
+    if nat_le (O.clock.0 + increment) last_time
+    then (accepted, later_output increment O)
+    else (refused 12, O)
 
 -- read request of operation p at output server j
 abbrev pub read_step : System → ℕ → ℕ → ℕ → Output → ℕ → List Message → ServerStep Output
@@ -29,4 +32,5 @@ answer_step drift j i y O made log =
 -- invalidation from input server i
 abbrev pub invalidation_step : ℕ → ℕ → ℕ → Version → Output → ℕ → List Message → ServerStep Output
 invalidation_step j i o v O made log =
-    with_room O made log (steps (after_invalidation i o v O) (answers_invalidation j i o v) made log)
+    with_room O made log
+    (steps (after_invalidation i o v O) (answers_invalidation j i o v) made log)

@@ -1,10 +1,9 @@
-// Output servers: they answer reads from copies of their own, under leases.
+//! Output servers: they answer reads from copies of their own, under leases.
 #![tactic(auto)]
 
 mod link;
 mod reading;
 mod server;
-mod steps;
 mod taking;
 
 pub use server::OutputServer;

@@ -20,7 +20,8 @@ impl OutputServer {
         count: ServerCount,
         object: ObjectNumber,
     ) -> bool
-        ensures { result ≡ valid (I.meaning inputs.now) count.number object.number (output_of self.now) }
+        ensures { result
+            ≡ valid (I.meaning inputs.now) count.number object.number (output_of self.now) }
     {
         self.is_newest(count, object) && inputs.is_read_set(self.good_inputs(count, object))
     }
@@ -36,8 +37,8 @@ impl OutputServer {
     fn good_inputs(&self, count: ServerCount, object: ObjectNumber) -> MemberSet
         ensures { result.0 ≡ set_of count.number (good (output_of self.now) object.number) }
     {
-        // gathered here: a function that is handed the test would be public, and have to ask its callers that
-        // the test may be called; no public function asks anything
+        // gathered here: a function that is handed the test would be public, and have to ask its
+        // callers that the test may be called; no public function asks anything
         (0..count.get())
             .filter(|input| self.is_good(*input, object))
             .fold(MemberSet::EMPTY, |set, input| set.with(input))
@@ -63,12 +64,14 @@ impl OutputServer {
         requires { input < 8 }
         ensures { result ≡ leased (output_of self.now) input }
     {
-        self.links[input as usize].lease_end.is_live_at(self.clock())
+        self.links[input as usize]
+            .lease_end
+            .is_live_at(self.clock())
     }
 
-    // A renewal request to every input server that is not good, rising. It reads as the telling of an
-    // input server does; only test and message differ, and a trait of messages that may be none, which
-    // both crates would have to stand on, would take more lines than it saves.
+    // A renewal request to every input server that is not good, rising. It reads as the telling of
+    // an input server does; only test and message differ, and a trait of messages that may be none,
+    // which both crates would have to stand on, would take more lines than it saves.
     pub(crate) fn ask_renewals(
         &self,
         me: OutputNumber,
@@ -77,7 +80,8 @@ impl OutputServer {
         log: &mut Log,
     )
         requires { log.old.made + 9 ≤ length log.old.messages.now }
-        ensures { Logs log.old log.new (asks_all me.number count.number object.number (output_of self.now)) }
+        ensures { let server = output_of self.now in
+            Logs log.old log.new (asks_all me.number count.number object.number server) }
     {
         // a loop: of what a closure changes for `for_each`, a proof knows nothing afterwards
         for input in 0..count.get() {

@@ -12,13 +12,15 @@ use rules::{InRange, Log, Message, Newest, Pair, Pairs, Renewed};
 impl OutputServer {
     // An input server told of a version.
     pub(crate) fn hear_from(&mut self, input: InputNumber, pair: Pair)
-        ensures { output_of self.new ≡ with_link input.number (hears pair (link (output_of self.old) input.number)) (output_of self.old) }
+        ensures { let before = output_of self.old in
+            let i = input.number in
+            output_of self.new ≡ with_link i (hears pair (link before i)) before }
     {
         hear(&mut self.links[input.index()], pair);
     }
 
-    // A renewal answer changes what is kept of its sender, and where its copy is accepted and above the
-    // newest, that copy is the newest.
+    // A renewal answer changes what is kept of its sender, and where its copy is accepted and above
+    // the newest, that copy is the newest.
     #[tactic(auto, unfolding(rules::specs::Output::after_answer))]
     pub(crate) fn renew_from(
         &mut self,
@@ -26,10 +28,8 @@ impl OutputServer {
         renewed: &InRange<Renewed>,
         drift: Drift,
     )
-        ensures {
-            output_of self.new
-                ≡ after_answer drift.thousandths input.number renewed.now.value (output_of self.old)
-        }
+        ensures { output_of self.new
+            ≡ after_answer drift.thousandths input.number renewed.now.value (output_of self.old) }
     {
         if renew(&mut self.links[input.index()], renewed, drift) {
             self.take_newest(renewed);
