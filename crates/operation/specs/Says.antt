@@ -20,13 +20,15 @@ use Rattle.rules.specs.Operation.{Operation, asking, sending, reading}
 use Rattle.rules.specs.Reaction.{Reaction, goes_on, sends_version, ends_with}
 use Rattle.rules.specs.Said.{write_ended, read_ended}
 
--- the very state that was given, alone where the refusal's number is 0, and beside the refusal otherwise
+-- the very state that was given, alone where the refusal's number is 0, and beside the refusal
+-- otherwise
 abbrev pub Accepted : {State : Type 0} → ℕ → State → Result State (Refusal × State) → Type 0
 Accepted number w (Ok s) = (number ≡ 0) × (s ≡ w)
 Accepted number w (Err e) = (number ≡ number_of e.0) × (e.1 ≡ w)
 
 -- a refusal hands back the very state that was given
-abbrev pub HandsBack : {State Progress : Type 0} → State → Result Progress (Refusal × State) → Type 0
+abbrev pub HandsBack : {State Progress : Type 0}
+    → State → Result Progress (Refusal × State) → Type 0
 HandsBack w (Ok s) = Unit {0}
 HandsBack w (Err e) = e.1 ≡ w
 

@@ -11,11 +11,15 @@ use numbers::{Kind, ObjectCount, ObjectIndex, ServerCount};
 use quorum::{QuorumSystem, Refusal, Systems};
 use rules::{Counts, MOST_OPERATIONS, Message};
 
-// The widest ranges that a field over these systems has: none, where one has more members than a field has
-// servers on a side.
+// The widest ranges that a field over these systems has: none, where one has more members than a
+// field has servers on a side.
 fn widest<I: QuorumSystem, O: QuorumSystem>(systems: &Systems<I, O>) -> Option<Counts>
-    ensures none { IsNone result ↔ IsTrue (too_many (I.meaning systems.now.inputs) (O.meaning systems.now.outputs)) }
-    ensures some { IfSome result (λ c. counts_of c ≡ widest (I.meaning systems.now.inputs) (O.meaning systems.now.outputs)) }
+    ensures none { let inputs = I.meaning systems.now.inputs in
+        let outputs = O.meaning systems.now.outputs in
+        IsNone result ↔ IsTrue (too_many inputs outputs) }
+    ensures some { let inputs = I.meaning systems.now.inputs in
+        let outputs = O.meaning systems.now.outputs in
+        IfSome result (λ c. counts_of c ≡ widest inputs outputs) }
 {
     Some(Counts {
         inputs: ServerCount::try_from(systems.inputs.count()).ok()?,
@@ -40,13 +44,15 @@ pub(crate) trait State: Sized {
     fn has_next_clock(&self) -> bool
         ensures { result ≡ has_next_clock (meaning self.now) };
 
-    // Whether the operation that the message names, if it names one, is this one, begun and in range,
-    // with room for a version where the message is a clock answer.
+    // Whether the operation that the message names, if it names one, is this one, begun and in
+    // range, with room for a version where the message is a clock answer.
     final fn is_named(&self, message: &Message, counts: Counts) -> bool
         ensures { let state = meaning self.now in
             let own = own_number state in
-            let fits = between 1 1024 own && state_fits (counts_of counts) own state in
-            result ≡ operation_fits (λ p. (p == own) && fits) (λ _. has_next_clock state) message.now }
+            let fits = state_fits (counts_of counts) own state in
+            result
+            ≡ operation_fits (λ p. (p == own) && (between 1 1024 own && fits))
+            (λ _. has_next_clock state) message.now }
     {
         let Some(operation) = message.operation() else {
             return true;
@@ -61,8 +67,8 @@ pub(crate) trait State: Sized {
         }
     }
 
-    // The state itself where it takes the message, and beside the refusal otherwise: of a system that
-    // is too large, then of a number out of range.
+    // The state itself where it takes the message, and beside the refusal otherwise: of a system
+    // that is too large, then of a number out of range.
     final fn accept<I: QuorumSystem, O: QuorumSystem>(
         self,
         message: &Message,

@@ -39,6 +39,22 @@ fn objects_are_those_that_there_are(rt: HostRuntime) {
 }
 
 #[test]
+fn places_tell_what_is_there(rt: HostRuntime) -> Result<(), Fail> {
+    for (place, operation, is_write, is_read) in [
+        (Operation::Unused, None, false, false),
+        (write(7), Some(7), true, false),
+        (sending()?, Some(7), true, false),
+        (Operation::Reading(Read::new(8, 3)), Some(8), false, true),
+        (Operation::Ended, None, false, false),
+    ] {
+        assert_eq!(rt; place.operation(), operation);
+        assert_eq!(rt; place.is_write(), is_write);
+        assert_eq!(rt; place.is_read(), is_read);
+    }
+    Ok(())
+}
+
+#[test]
 fn room_above_the_clock(rt: HostRuntime) -> Result<(), Fail> {
     assert!(rt; write(7).has_next_clock());
     assert!(rt; sending()?.has_next_clock());
