@@ -1,4 +1,5 @@
--- What is told of a message: who sends it, whether that asks, answers or tells, who gets it, and what it says.
+-- What is told of a message: who sends it, whether that asks, answers or tells, who gets it, and
+-- what it says.
 use Rattle.std.specs.Prelude.{ℕ, List, ◌++◌, codes, decimal}
 use Rattle.rules.specs.declared.message.Message.{Message}
 use Rattle.rules.specs.declared.message.Message.TheVariants.{ClockQuestion, ClockAnswer, WriteRequest, WriteAnswer, ReadRequest, ReadAnswer, RenewalRequest, RenewalAnswer, Invalidation, InvalidationAnswer}
@@ -44,17 +45,23 @@ receiver_text (InvalidationAnswer j i l) = input_name i
 abbrev pub content_text : Message → List ℕ
 content_text (ClockQuestion p i) = codes " for its clock"
 content_text (ClockAnswer i p clock) = codes ": clock " ++ decimal clock
-content_text (WriteRequest p i o v x) = codes " to hold " ++ version_text (record { object = o; version = v }) ++ codes ", value " ++ decimal x
+content_text (WriteRequest p i o v x) =
+    codes " to hold " ++ version_text (record { object = o; version = v })
+    ++ codes ", value " ++ decimal x
 content_text (WriteAnswer i p s) = codes " and names as shut out: " ++ set_text s.0
 content_text (ReadRequest p j o) = codes " for object " ++ decimal o
-content_text (ReadAnswer j p v x) = codes ": version " ++ decimal v.0 ++ codes ", value " ++ decimal x
-content_text (RenewalRequest j i r) = codes " for " ++ wanted_text r ++ codes ", stamped " ++ decimal r.stamp.0
+content_text (ReadAnswer j p v x) =
+    codes ": version " ++ decimal v.0 ++ codes ", value " ++ decimal x
+content_text (RenewalRequest j i r) =
+    codes " for " ++ wanted_text r ++ codes ", stamped " ++ decimal r.stamp.0
 content_text (RenewalAnswer i j y) = codes ": " ++ brought_text y
-content_text (Invalidation i j o v) = codes " of " ++ version_text (record { object = o; version = v })
+content_text (Invalidation i j o v) =
+    codes " of " ++ version_text (record { object = o; version = v })
 content_text (InvalidationAnswer j i l) = codes " that it knows " ++ versions_text l
 
 abbrev pub sentence_of : Message → List ℕ
-sentence_of e = sender_text e ++ codes " " ++ verb_text e ++ codes " " ++ receiver_text e ++ content_text e
+sentence_of e =
+    sender_text e ++ codes " " ++ verb_text e ++ codes " " ++ receiver_text e ++ content_text e
 
 abbrev pub line_of : ℕ → Message → List ℕ
 line_of k e = codes "message " ++ decimal k ++ codes ": " ++ sentence_of e

@@ -59,4 +59,5 @@ abbrev pub news_text : Pairs → List ℕ
 news_text l = if length (list_of l) == 0 then [] else codes ", news of " ++ versions_text l
 
 unfoldable pub brought_text : Renewed → List ℕ
-brought_text y = codes "epoch " ++ decimal y.epoch.0 ++ copy_text y ++ lease_text y ++ news_text y.list
+brought_text y =
+    codes "epoch " ++ decimal y.epoch.0 ++ copy_text y ++ lease_text y ++ news_text y.list

@@ -6,13 +6,15 @@ use numbers::Version;
 use rules::Delivery;
 use std::fmt;
 
-// What ended with a delivery, told in one line: which operation, with which version and value.
+/// What ended with a delivery, told in one line: which operation, with which version and value.
 #[derive(Clone, Copy)]
 pub struct ToldEnd {
-    delivery: Delivery,
+    /// What the delivery says.
+    pub delivery: Delivery,
 }
 
 impl ToldEnd {
+    /// What the delivery says, to be told.
     pub fn new(delivery: Delivery) -> ToldEnd
         ensures { result.delivery ≡ delivery }
     {
@@ -20,6 +22,7 @@ impl ToldEnd {
     }
 }
 
+/// As `write 7 ended with version 655367, value 500`, or `nothing ended`, with no end of line.
 impl fmt::Display for ToldEnd {
     ghost output = { λ t. Some (end_text t.delivery) };
 

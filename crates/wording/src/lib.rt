@@ -1,5 +1,5 @@
-// Messages of the rules, and ends of operations, each told in one line: who sends what to whom, and
-// what ended with which version and value.
+//! Messages, and ends of operations, each told in one line: who sends what to whom, and what ended
+//! with which version and value.
 #![tactic(auto)]
 
 mod content;

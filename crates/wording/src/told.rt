@@ -5,15 +5,18 @@ use crate::sentence::Sentence;
 use rules::Message;
 use std::fmt;
 
-// A message with its number in the log, told in one line: who sends what to whom. Whatever numbers
-// the message has, there is a line for it.
+/// A message with its number in the log, told in one line: who sends what to whom. Whatever numbers
+/// the message has, there is a line for it.
 #[derive(Clone, Copy)]
 pub struct Told<'a> {
-    number: u64,
-    message: &'a Message,
+    /// The number of the message in the log, which counts from 1.
+    pub number: u64,
+    /// The message.
+    pub message: &'a Message,
 }
 
 impl<'a> Told<'a> {
+    /// The message of this number, to be told.
     pub fn new(number: u64, message: &'a Message) -> Told<'a>
         ensures number { result.number ≡ number }
         ensures message { result.message.now ≡ message.now }
@@ -22,6 +25,7 @@ impl<'a> Told<'a> {
     }
 }
 
+/// As `message 4: input server 1 answers write 7: clock 9`, with no end of line.
 impl<'a> fmt::Display for Told<'a> {
     ghost output = { λ t. Some (line_of t.number t.message.now) };
 
