@@ -18,5 +18,4 @@ mod to_operations;
 mod to_servers;
 
 pub use field::Field;
-pub use making::{blank_message, blank_operation};
 pub use opening::Opening;

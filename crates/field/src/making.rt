@@ -1,16 +1,12 @@
-// What a caller starts with: a field that is not yet open, and blank entries for a log and a table.
+// What a caller starts with: a field that is not yet open.
 ghost use Rattle.std.specs.Prelude.{◌≡◌, List, map};
 ghost use Rattle.operation.specs.declared.table.Operation.{Operation as Place};
 ghost use Rattle.operation.specs.States.{operation_of};
 ghost use Rattle.rules.specs.declared.message.Message.{Message as AnyMessage};
-ghost use Rattle.rules.specs.Calls.{no_message};
-ghost use Rattle.rules.specs.Operation.{unused};
 ghost use Rattle.field.specs.Unopened.{unopened};
 ghost use Rattle.field.specs.Fields.{lent_to};
 
 use crate::field::Field;
-use operation::Operation;
-use rules::Message;
 
 impl Field {
     /// A field that is not yet open. It has no servers, and refuses 8 at every call but opening.
@@ -20,18 +16,4 @@ impl Field {
     {
         Field { inside: None }
     }
-}
-
-// An entry of a log that no call has written yet.
-pub fn blank_message() -> Message
-    ensures { result ≡ no_message }
-{
-    Message::BLANK
-}
-
-// A place of a table that no operation has taken yet.
-pub fn blank_operation() -> Operation
-    ensures { operation_of result ≡ unused }
-{
-    Operation::Unused
 }

@@ -1,6 +1,6 @@
 // A field on a bench: with the log, the table and the systems that it is lent, so that a test says
 // only what it does.
-use field::{Field, Opening, blank_message, blank_operation};
+use field::{Field, Opening};
 use numbers::{Time, Version};
 use operation::Operation;
 use quorum::{Majority, QuorumSystem, Refusal, Systems};
@@ -18,11 +18,11 @@ pub fn opening(objects: u64) -> Opening {
 }
 
 fn blank_log(alloc: Global, len: usize) -> Result<Vec<Message>, AllocError> {
-    (0..len).map(|_| blank_message()).collect(alloc)
+    (0..len).map(|_| Message::BLANK).collect(alloc)
 }
 
 fn blank_table(alloc: Global, len: usize) -> Result<Vec<Operation>, AllocError> {
-    (0..len).map(|_| blank_operation()).collect(alloc)
+    (0..len).map(|_| Operation::Unused).collect(alloc)
 }
 
 /// What a caller owns and lends to every call.

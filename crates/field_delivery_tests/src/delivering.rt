@@ -1,5 +1,4 @@
 // What becomes of messages: delivered once, twice, late, in any order, or never.
-use field::blank_message;
 use field_bench::messages::{
     clock_answer, clock_question, invalidation, read_answer, read_ended, renewal_request,
     write_answer, write_ended, write_request,
@@ -7,7 +6,7 @@ use field_bench::messages::{
 use field_bench::{Bench, Lent, Place, by_majority, closed, expect_refusal, expect_same, opening};
 use numbers::Version;
 use quorum::{Majority, ReadOneWriteAll};
-use rules::{Delivery, Parts};
+use rules::{Delivery, Message, Parts};
 use std::alloc::Global;
 use std::test::Fail;
 
@@ -40,7 +39,7 @@ fn nine_places_of_the_log_are_free(rt: HostRuntime) -> Result<(), Fail> {
     bench.expect_last(2, &[clock_answer(0, 1, 1)])?;
     bench.expect_refused(&[1, 2], 32)?;
     expect_same("messages", &bench.field.messages_made(), &2)?;
-    bench.expect(3, blank_message())
+    bench.expect(3, Message::BLANK)
 }
 
 // The longest log is filled but for its last eight places.

@@ -1,9 +1,10 @@
 // What a beginning takes, and what it makes.
-use field::{Opening, blank_message};
+use field::Opening;
 use field_bench::messages::{clock_answer, clock_question, read_request};
 use field_bench::{Bench, Place, by_majority, closed, expect_same, opening, refusal};
 use operation::Operation;
 use quorum::Majority;
+use rules::Message;
 use std::alloc::Global;
 use std::test::Fail;
 
@@ -43,7 +44,7 @@ fn operations_and_messages_are_numbered_from_1(rt: HostRuntime) -> Result<(), Fa
         clock_question(3, 1),
     ];
     bench.expect_last(1, &made)?;
-    bench.expect(8, blank_message())?;
+    bench.expect(8, Message::BLANK)?;
     expect_same("operations", &bench.field.operations_begun(), &3)?;
     bench.expect_place(1, Place::Asking)?;
     bench.expect_place(2, Place::Reading)?;
@@ -95,7 +96,7 @@ fn nine_places_of_the_log_are_free(rt: HostRuntime) -> Result<(), Fail> {
     bench.expect_read(0, 2)?;
     bench.expect(8, clock_question(1, 7))?;
     bench.expect(16, read_request(2, 7, 0))?;
-    bench.expect(17, blank_message())?;
+    bench.expect(17, Message::BLANK)?;
     refused(&mut bench, 0, 23)
 }
 
@@ -104,7 +105,7 @@ fn eight_places_of_the_log_are_too_few(rt: HostRuntime) -> Result<(), Fail> {
     let mut bench = field(rt.alloc(), 8, opening(1), 16, 4)?;
     bench.expect_write(0, 7, 1)?;
     refused(&mut bench, 0, 23)?;
-    bench.expect(9, blank_message())?;
+    bench.expect(9, Message::BLANK)?;
     bench.expect_place(2, Place::Unused)
 }
 

@@ -1,7 +1,13 @@
-// Lists of pairs and the parts of renewals, by example.
+// Blank places of a log, lists of pairs and the parts of renewals, by example.
+use crate::message::Message;
 use crate::pairs::{Pair, Pairs};
 use crate::parts::Parts;
 use numbers::Version;
+
+#[test]
+fn a_blank_place_names_an_operation_that_there_is_not(rt: HostRuntime) {
+    assert_eq!(rt; Message::BLANK.operation(), Some(0));
+}
 
 #[test]
 fn pairs_that_are_read(rt: HostRuntime) {

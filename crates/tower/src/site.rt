@@ -3,7 +3,7 @@
 use crate::group::{Group, Which};
 use crate::seconds::Seconds;
 use anyhow::{Result, bail};
-use field::{Field, Opening, blank_message, blank_operation};
+use field::{Field, Opening};
 use numbers::{Time, Version};
 use operation::Operation;
 use quorum::{Majority, ReadOneWriteAll, Systems};
@@ -47,8 +47,8 @@ impl Site {
     pub(crate) fn open(alloc: Global) -> Result<Site> {
         let mut site = Site {
             field: Field::new(),
-            log: (0..2_048).map(|_| blank_message()).collect(alloc)?,
-            table: (0..128).map(|_| blank_operation()).collect(alloc)?,
+            log: (0..2_048).map(|_| Message::BLANK).collect(alloc)?,
+            table: (0..128).map(|_| Operation::Unused).collect(alloc)?,
             systems: Systems {
                 inputs: Majority::new(SERVERS as u64)?,
                 outputs: ReadOneWriteAll::new(SERVERS as u64)?,

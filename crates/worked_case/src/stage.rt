@@ -1,6 +1,6 @@
 // The field with what it is lent: its log, its table and its two systems.
 use anyhow::{Result, bail};
-use field::{Field, Opening, blank_message, blank_operation};
+use field::{Field, Opening};
 use numbers::Time;
 use operation::Operation;
 use quorum::{Majority, Systems};
@@ -25,8 +25,8 @@ impl Stage {
     pub(crate) fn open(alloc: Global) -> Result<Stage> {
         let mut stage = Stage {
             field: Field::new(),
-            log: (0..24).map(|_| blank_message()).collect(alloc)?,
-            table: (0..2).map(|_| blank_operation()).collect(alloc)?,
+            log: (0..24).map(|_| Message::BLANK).collect(alloc)?,
+            table: (0..2).map(|_| Operation::Unused).collect(alloc)?,
             systems: Systems {
                 inputs: Majority::new(1)?,
                 outputs: Majority::new(1)?,
