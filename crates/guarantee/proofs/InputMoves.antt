@@ -664,7 +664,7 @@ leased L b I = record { last_acknowledged = (ledger I b).last_acknowledged; epoc
 
 module _ (L b : ℕ) (r : Renewal) (I : Input) where
   -- each object is as it was, or it is the one given
-  object_from : (p : ℕ) → (held (after_renewal L b r I) p ≡ held I p) ⊎ ((r.object ≡ p) × (held (after_renewal L b r I) p ≡ given_out (held I r.object)))
+  pub object_from : (p : ℕ) → (held (after_renewal L b r I) p ≡ held I p) ⊎ ((r.object ≡ p) × (held (after_renewal L b r I) p ≡ given_out (held I r.object)))
   object_from p = cond_both (asks_object r.parts) (set I.objects r.object (given_out (held I r.object))) I.objects
       (λ (l : List Held). (get_or l p no_held ≡ held I p) ⊎ ((r.object ≡ p) × (get_or l p no_held ≡ given_out (held I r.object))))
       (λ _. set_from I.objects r.object p (given_out (held I r.object)) no_held) (λ _. inl refl)

@@ -30,6 +30,8 @@ pub mod ServerSteps
 pub mod CallCases
 pub mod Bounds
 pub mod CallLaws
+pub mod ReadLaws
+pub mod RenewalLaws
 pub mod Gathered
 pub mod Completes
 pub mod Endings

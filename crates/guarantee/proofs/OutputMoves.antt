@@ -63,7 +63,7 @@ heard x l = record {
 hears_from : (x : Pair) (l : Link) (p : ℕ) → (copy_of (hears x l) p ≡ copy_of l p) ⊎ ((x.object ≡ p) × (copy_of (hears x l) p ≡ heard x l))
 hears_from x l p = set_from l.copies x.object p (heard x l) no_copy
 
-hears_got : (x : Pair) (l : Link) (p : ℕ) → (copy_of (hears x l) p).got ≡ (copy_of l p).got
+pub hears_got : (x : Pair) (l : Link) (p : ℕ) → (copy_of (hears x l) p).got ≡ (copy_of l p).got
 hears_got x l p = elim (hears_from x l p) [
   | inl e ↦ ap (λ (c : Copied). c.got) e
   | inr h ↦ ap (λ (c : Copied). c.got) h.1 ∙ ap (λ (k : ℕ). (copy_of l k).got) h.0
@@ -98,7 +98,7 @@ unfolding hears_all
 hears_all_lease [] l = (refl, refl)
 hears_all_lease (x ∷ r) l = hears_all_lease r (hears x l)
 
-hears_all_got : (ps : List Pair) (l : Link) (p : ℕ) → (copy_of (hears_all ps l) p).got ≡ (copy_of l p).got
+pub hears_all_got : (ps : List Pair) (l : Link) (p : ℕ) → (copy_of (hears_all ps l) p).got ≡ (copy_of l p).got
 unfolding hears_all
 hears_all_got [] l p = refl
 hears_all_got (x ∷ r) l p = hears_all_got r (hears x l) p ∙ hears_got x l p
@@ -131,7 +131,7 @@ abbrev taken : Renewed → Link → Copied
 taken y l = record { got = y.version; known = y.version; epoch = later (copy_of l y.renewal.object).epoch y.epoch }
 
 -- each copy is as it was, or is the one that was accepted
-takes_from : (y : Renewed) (l : Link) (p : ℕ) → (copy_of (takes_copy y l) p ≡ copy_of l p)
+pub takes_from : (y : Renewed) (l : Link) (p : ℕ) → (copy_of (takes_copy y l) p ≡ copy_of l p)
     ⊎ ((y.renewal.object ≡ p) × (asks_object y.renewal.parts ≡ true) × ((copy_of l y.renewal.object).known.0 ≤ y.version.0) × (copy_of (takes_copy y l) p ≡ taken y l))
 takes_from y l p = cond_both (accepts y l) (with_copy y.renewal.object (taken y l) l) l
     (λ (k : Link). (copy_of k p ≡ copy_of l p)
@@ -203,7 +203,7 @@ abbrev pub answered : ℕ → Renewed → Link → Link
 answered drift y l = takes_lease drift y (takes_copy y (hears_all (list_of y.list) l))
 
 module _ (drift : ℕ) (y : Renewed) (l : Link) where
-  answered_copy : (p : ℕ) → copy_of (answered drift y l) p ≡ copy_of (takes_copy y (hears_all (list_of y.list) l)) p
+  pub answered_copy : (p : ℕ) → copy_of (answered drift y l) p ≡ copy_of (takes_copy y (hears_all (list_of y.list) l)) p
   answered_copy p = ap (λ (cs : List Copied). get_or cs p no_copy) (leases_copies drift y (takes_copy y (hears_all (list_of y.list) l)))
 
   pub answered_copies : length (answered drift y l).copies ≡ length l.copies

@@ -5,5 +5,7 @@ pub mod Gathering
 pub mod Guarantee
 pub mod Laws
 pub mod Leases
+pub mod ReadRequests
+pub mod RenewalRequests
 pub mod Story
 pub mod Worked

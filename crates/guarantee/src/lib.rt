@@ -7,6 +7,7 @@ mod alive;
 mod gathering;
 mod guaranteed;
 mod laws;
+mod requests;
 mod worked;
 
 pub use alive::stories_end;
@@ -15,4 +16,5 @@ pub use gathering::{
 };
 pub use guaranteed::{every_story_stands, leases_run_out, operations_end_when_complete};
 pub use laws::{bounds_hold, calls_keep, others_stay, writes_tell};
+pub use requests::{read_requests_ask, renewal_requests_grant};
 pub use worked::worked_lines_hold;
