@@ -20,6 +20,7 @@ use Rattle.guarantee.proofs.InputMoves.{names_below_write}
 use Rattle.guarantee.proofs.ServerSteps.{changed, input_same, later_rises, output_same, later_output_rises, queues_leaves, acks_leaves}
 use Rattle.guarantee.proofs.Sets.{has-set_of}
 use Rattle.guarantee.proofs.CallCases.{InputStep, OutputStep, Reacts, NotRefused, Advanced, advances, call_ways}
+use Rattle.guarantee.proofs.Traces.{in_has}
 use Rattle.guarantee.proofs.Words.{never, set_from, In, All, Any, any_old, any_new, any_each}
 
 -- ---- refusals
@@ -220,11 +221,6 @@ all_has {A = A} P l x a h = subst P h.2 (go l h.0 h.1 a)
     go (y ∷ l) zero b a = a.0
     go (y ∷ l) (suc k) b a = go l k (omega arith) a.1
 
-in_has : {A : Type 0} (l : List A) (x : A) → In x l → Has l x
-in_has [] x h = absurd h
-in_has (y ∷ l) x (inl e) = (0, omega arith, sym e)
-in_has (y ∷ l) x (inr h) = let r = in_has l x h in (suc r.0, omega (arith, r.1), r.2)
-
 -- of an invalidation: to whom it goes and what it carries
 abbrev Told : Input → ℕ → ℕ → ℕ → Message → Type 0
 Told I i m o (Invalidation k j q v) = (k ≡ i) × (j < m) × (q ≡ o) × (v ≡ (held I o).version) × (is_shut_out I o j ≡ false)
@@ -235,7 +231,7 @@ only_others_are_told I i p m o k j q v h = all_has (Told I i m o) (answers_write
     (names_below_write (Told I i m o) i p m o I (λ b l e. (refl, l, refl, refl, e)) tt) h
 
 pub all_others_are_told : AllOthersAreTold
-all_others_are_told I i p m o j l h = in_has (answers_write i p m o I) x
+all_others_are_told I i p m o j l h = in_has x (answers_write i p m o I)
     (any_old (λ y. x ≡ y) (invalidations i m o I) _
     (any_each (λ y. x ≡ y) m (λ k. cond (is_shut_out I o k) [] (Invalidation i k o (held I o).version ∷ [])) j l
     (subst (λ (new : List Message). Any (λ y. x ≡ y) new) (sym (cond-false (is_shut_out I o j) [] (x ∷ []) h)) (inl refl))))
@@ -255,7 +251,7 @@ named_is_shut_out I m o j l = has-set_of m (is_shut_out I o) j ∙ ap (λ (b : B
 pub write_is_answered : WriteIsAnswered
 write_is_answered I i p m o = (
   t,
-  in_has (answers_write i p m o I) (WriteAnswer i p t)
+  in_has (WriteAnswer i p t) (answers_write i p m o I)
       (any_new (λ y. WriteAnswer i p t ≡ y) (invalidations i m o I) (WriteAnswer i p t ∷ []) (inl refl)),
 )
   where

@@ -28,7 +28,7 @@ use Rattle.guarantee.specs.Story.{Has}
 use Rattle.guarantee.proofs.OutputMoves as Outs
 use Rattle.guarantee.proofs.ServerSteps.{changed}
 use Rattle.guarantee.proofs.Sets.{of_set_of, to_set_of, set_of-within}
-use Rattle.guarantee.proofs.Stories.{in_has, has_in}
+use Rattle.guarantee.proofs.Traces.{in_has, has_in}
 use Rattle.guarantee.proofs.Words.{In, All, all_at, each_all, any_each}
 
 -- ---- sets

@@ -33,7 +33,7 @@ pub(crate) trait State: Sized {
     ghost meaning: { Self → Operation };
 
     // The number of the operation whose state this is. Each state reads a field of its own for it.
-    fn operation(&self) -> u16
+    fn own_number(&self) -> u16
         ensures { result ≡ own_number (meaning self.now) };
 
     // Whether the state is in range as that of the operation with this number.
@@ -57,7 +57,7 @@ pub(crate) trait State: Sized {
         let Some(operation) = message.operation() else {
             return true;
         };
-        let own = self.operation();
+        let own = self.own_number();
         let begun = operation == own
             && (1..=MOST_OPERATIONS).contains(&own)
             && self.fits(counts, own);

@@ -106,7 +106,7 @@ impl State for AskingWrite {
 
     ghost meaning = { λ w. asking (asking_of w) };
 
-    fn operation(&self) -> u16 {
+    fn own_number(&self) -> u16 {
         self.operation
     }
 

@@ -119,7 +119,7 @@ impl State for Read {
 
     ghost meaning = { λ r. reading (reading_of r) };
 
-    fn operation(&self) -> u16 {
+    fn own_number(&self) -> u16 {
         self.operation
     }
 

@@ -203,8 +203,8 @@ impl State for SendingWrite {
 
     ghost meaning = { λ w. sending (sending_of w) };
 
-    fn operation(&self) -> u16 {
-        self.operation
+    fn own_number(&self) -> u16 {
+        self.operation()
     }
 
     fn fits(&self, counts: Counts, operation: u16) -> bool {
