@@ -135,8 +135,7 @@ impl<I: QuorumSystem + Drop, O: QuorumSystem + Drop> Bench<I, O> {
     /// Delivers the message with that number, and says what ended with it.
     pub fn deliver(&mut self, number: usize) -> Result<Delivery, Refusal> {
         let lent = &mut self.lent;
-        self.field
-            .deliver(&mut lent.log, &mut lent.table, &lent.systems, number as u64)
+        self.field.deliver(&mut lent.log, &mut lent.table, &lent.systems, number as u64)
     }
 
     /// What is seen of the field.

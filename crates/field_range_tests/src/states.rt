@@ -7,7 +7,7 @@ use field_bench::messages::{
 };
 use field_bench::{Place, expect_same, with_a_write};
 use numbers::Version;
-use operation::{AskingProgress, AskingWrite, Operation, Read, SendingWrite, Progress};
+use operation::{AskingProgress, AskingWrite, Operation, Progress, Read, SendingWrite};
 use quorum::{Majority, ReadOneWriteAll, Refusal, Systems};
 use rules::{Pairs, Parts};
 use std::alloc::Global;

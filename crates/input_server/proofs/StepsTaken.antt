@@ -13,7 +13,6 @@ use Rattle.rules.specs.Steps.{ServerStep, step, steps, has_room, Logs}
 use Rattle.input_server.specs.Epochs.{have_epochs}
 use Rattle.input_server.specs.Steps.{write_step}
 
-
 pub telling_one : (i o : ℕ) (I : Input) (j : ℕ) → length (invalidation i o I j) ≤ 1
 telling_one i o I j = cond_both (is_shut_out I o j) [] _ (λ (l : List Message). length l ≤ 1) (λ _. omega arith) (λ _. omega arith)
 

@@ -1,6 +1,9 @@
 // An input server with a log lent to it, and plain numbers in place of checked ones.
 use input_server::{InputServer, RenewalRequest, WriteRequest};
-use numbers::{Epoch, InputNumber, LeaseLength, Moment, OperationNumber, OutputNumber, ServerCount, Time, Version};
+use numbers::{
+    Epoch, InputNumber, LeaseLength, Moment, OperationNumber, OutputNumber, ServerCount, Time,
+    Version,
+};
 use quorum::MemberSet;
 use rules::{InRange, Log, Message, Pair, Pairs, Parts, Renewal, Renewed};
 use std::fmt::{Debug, Display};

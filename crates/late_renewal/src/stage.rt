@@ -3,7 +3,10 @@
 use crate::words::{Versions, Words};
 use anyhow::{Result, bail};
 use input_server::{InputServer, RenewalRequest, WriteRequest};
-use numbers::{Drift, InputNumber, LeaseLength, Moment, ObjectNumber, OperationNumber, OutputNumber, ServerCount, Time, Version};
+use numbers::{
+    Drift, InputNumber, LeaseLength, Moment, ObjectNumber, OperationNumber, OutputNumber,
+    ServerCount, Time, Version,
+};
 use output_server::OutputServer;
 use quorum::Majority;
 use rules::{InRange, Log, Message, Pair, Pairs, Renewal, Renewed};

@@ -1,7 +1,7 @@
 // A write goes from state to state by its answers. Each state is a type of its own: an answer uses
 // the state up and gives the next one, and a refusal gives it back as it was.
 use anyhow::{Result, bail};
-use operation::{AskingProgress, AskingWrite, End, SendingWrite, Progress};
+use operation::{AskingProgress, AskingWrite, End, Progress, SendingWrite};
 use quorum::{QuorumSystem, Refusal, Systems};
 use rules::Message;
 use std::ops::ControlFlow;

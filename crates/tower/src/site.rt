@@ -182,12 +182,7 @@ impl Site {
     }
 
     // A tower is asked, renews what it has to renew, is asked again, and answers.
-    pub(crate) fn pursue(
-        &mut self,
-        rt: &impl Print,
-        request: u64,
-        object: u8,
-    ) -> Result<Reading> {
+    pub(crate) fn pursue(&mut self, rt: &impl Print, request: u64, object: u8) -> Result<Reading> {
         let mut made = self.ask(rt, request)?;
         let mut renewals = 0;
         if self.renewal(made.first).is_some() {
