@@ -3,7 +3,7 @@ use Rattle.std.proofs.Common.{◌≡◌, ℕ, zero, suc, ◌-◌, ◌<◌, ◌�
 use Rattle.std.proofs.lemmas.Bool.{ne_eqb, eq-eqb, cond-true, cond-false, cases_eq}
 use Rattle.numbers.specs.Numbers.{records}
 use Rattle.chain.specs.declared.record.Entry.{Entry}
-use Rattle.chain.specs.Records.{blank, at, entry, Leads, count, tally, naming, total, Lines, View, Sound}
+use Rattle.chain.specs.Records.{blank, at, entry, Leads, count, tally, naming, total, Lines, View, WellLinked}
 use Rattle.chain.specs.Waiting.{waiting_in}
 use Rattle.chain.specs.declared.record.Record.{Record}
 use Rattle.chain.proofs.Lines.{sealed}
@@ -54,5 +54,5 @@ module _ (rs : List Record) (wide : length rs ≡ records) (down : (k : ℕ) →
         tops = refl;
       }
 
-  pub fresh_chains : Sound rs (replicate 8 0) records × (waiting_in rs (replicate 8 0) ≡ replicate 8 [])
+  pub fresh_chains : WellLinked rs (replicate 8 0) records × (waiting_in rs (replicate 8 0) ≡ replicate 8 [])
   fresh_chains = (sealed rs (replicate 8 0) records _ _ fresh, waiting_lines rs (replicate 8 0) records _ _ fresh)

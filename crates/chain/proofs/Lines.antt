@@ -8,12 +8,12 @@ use Rattle.std.proofs.lemmas.List.{get_or-set_same, get_or-set_other, get_or-map
 use Rattle.std.proofs.lemmas.Bool.{ne_eqb, eq-eqb, cond-true, cond-false}
 use Rattle.numbers.specs.Numbers.{records}
 use Rattle.chain.specs.declared.record.Entry.{Entry}
-use Rattle.chain.specs.Records.{blank, at, pair_in, entry, walk, line, Step, Leads, On, count, tally, naming, total, Lines, View, Sound, Ends}
+use Rattle.chain.specs.Records.{blank, at, pair_in, entry, walk, line, Hop, Leads, On, count, tally, naming, total, Lines, View, WellLinked, Ends}
 use Rattle.chain.specs.declared.record.Record.{Record}
 
 -- A line is determined by where it begins.
 
-entry_is : (rs : List Record) (i : ℕ) (x : Entry) → Step rs i x → entry rs i ≡ x
+entry_is : (rs : List Record) (i : ℕ) (x : Entry) → Hop rs i x → entry rs i ≡ x
 entry_is rs i x s = λ k. record { slot = s.number k; pair = s.holds k }
 
 walk_leads : (rs : List Record) (n i : ℕ) (es : List Entry) → length es ≤ n → Leads rs i es 0 → walk rs n i ≡ es
@@ -59,7 +59,7 @@ lines_prop rs (h ∷ hs) (c ∷ cs) = hlevel (le_prop, leads_prop, lines_prop rs
 view_prop : (rs : List Record) (hs : List ℕ) (f : ℕ) (cs : List (List Entry)) (fs : List Entry) → IsProp (View rs hs f cs fs)
 view_prop rs hs f cs fs = hlevel (le_prop, ℕ_set, leads_prop, lines_prop)
 
-pub viewed : (rs : List Record) (hs : List ℕ) (f : ℕ) → Sound rs hs f → View rs hs f (map (line rs) hs) (line rs f)
+pub viewed : (rs : List Record) (hs : List ℕ) (f : ℕ) → WellLinked rs hs f → View rs hs f (map (line rs) hs) (line rs f)
 viewed rs hs f s = ∥∥₁_elim s (view_prop rs hs f _ _) (λ v. v)
 
 -- What one write leaves.
@@ -100,12 +100,12 @@ leads_split rs i (y ∷ ys) zs e l =
     let k = leads_split rs (at rs i).next ys zs e l.1 in (k.0, ((l.0, k.1.0), k.1.1))
 
 pub last_step : (rs : List Record) (i : ℕ) (ys : List Entry) (p : Entry) (e b : ℕ)
-    → Leads rs i (ys ++ (p ∷ [])) e → p.slot ≡ b → Leads rs i ys b × Step rs b p
+    → Leads rs i (ys ++ (p ∷ [])) e → p.slot ≡ b → Leads rs i ys b × Hop rs b p
 unfolding Leads
 last_step rs i ys p e b l k =
     let s = leads_split rs i ys (p ∷ []) e l in
     let m : s.0 ≡ b = s.1.1.0.number ∙ k in
-    (subst (λ n. Leads rs i ys n) m s.1.0, subst (λ n. Step rs n p) m s.1.1.0)
+    (subst (λ n. Leads rs i ys n) m s.1.0, subst (λ n. Hop rs n p) m s.1.1.0)
 
 pub none_left : (rs : List Record) (i : ℕ) (es : List Entry) → Leads rs i es 0 → i ≡ 0 → es ≡ []
 unfolding Leads
@@ -113,7 +113,7 @@ none_left rs i [] l z = refl
 none_left rs i (y ∷ es) l z = absurd (omega (arith, l.0.some))
 
 pub some_left : (rs : List Record) (i : ℕ) (es : List Entry) → Leads rs i es 0 → 0 < i
-    → (y : Entry) × (gs : List Entry) × (es ≡ y ∷ gs) × Step rs i y × Leads rs (at rs i).next gs 0
+    → (y : Entry) × (gs : List Entry) × (es ≡ y ∷ gs) × Hop rs i y × Leads rs (at rs i).next gs 0
 unfolding Leads
 some_left rs i [] l z = absurd (omega arith)
 some_left rs i (y ∷ es) l z = (y, es, refl, l.0, l.1)
@@ -212,7 +212,7 @@ module _ (rs : List Record) (hs : List ℕ) (f : ℕ) (cs : List (List Entry)) (
   pub view_lines : map (line rs) hs ≡ cs
   view_lines = lines_map rs hs cs (omega (arith, v.all)) v.lines
 
-  pub sealed : Sound rs hs f
+  pub sealed : WellLinked rs hs f
   sealed =
       ∣ subst₂ (λ xs ys. View rs hs f xs ys) (sym view_lines) (sym (line_is rs f fs (omega (arith, v.all)) v.spare)) v ∣₁
 
@@ -221,7 +221,7 @@ module _ (rs : List Record) (hs : List ℕ) (f : ℕ) (cs : List (List Entry)) (
 pub line_at : (rs : List Record) (hs : List ℕ) (j : ℕ) → j < length hs → get_or (map (line rs) hs) j [] ≡ line rs (get_or hs j 0)
 line_at rs hs j l = get_or-map (line rs) hs j 0 [] l
 
-pub on_start : (rs : List Record) (hs : List ℕ) (f j : ℕ) → Sound rs hs f → j < 8 → ∥ On rs (get_or hs j 0) ∥₁
+pub on_start : (rs : List Record) (hs : List ℕ) (f j : ℕ) → WellLinked rs hs f → j < 8 → ∥ On rs (get_or hs j 0) ∥₁
 on_start rs hs f j s q =
     let v = viewed rs hs f s in
     let l : j < length hs = omega arith in

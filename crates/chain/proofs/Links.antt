@@ -6,7 +6,7 @@ use Rattle.numbers.specs.Numbers.{records}
 use Rattle.numbers.specs.declared.version.Version.{Version}
 use Rattle.rules.specs.declared.pairs.Pair.{Pair}
 use Rattle.chain.specs.declared.record.Entry.{Entry}
-use Rattle.chain.specs.Records.{at, pair_in, relinked, linked_records, linked_heads, Step, Leads, count, tally, naming, Lines, View, Ends}
+use Rattle.chain.specs.Records.{at, pair_in, relinked, linked_records, linked_heads, Hop, Leads, count, tally, naming, Lines, View, Ends}
 use Rattle.chain.specs.declared.record.Record.{Record}
 use Rattle.chain.proofs.Lines.{at_same, leads_kept, leads_join, last_step, count_join, count_here, count_nil, naming_join, tally_set, total_set, lines_length, lines_at, lines_put, lines_kept, lines_set}
 
@@ -17,7 +17,7 @@ at_relinked : (rs : List Record) (i n : ℕ) → length rs ≡ records → 0 < i
 at_relinked rs i n w p q = at_same rs i _ p (omega arith)
 
 -- the record of entry y leads to n, where zs begins
-leads_relinked : (rs : List Record) (i n : ℕ) (y : Entry) (zs : List Entry) → length rs ≡ records → Step rs i y
+leads_relinked : (rs : List Record) (i n : ℕ) (y : Entry) (zs : List Entry) → length rs ≡ records → Hop rs i y
     → Leads (relinked rs i n) n zs 0 → Leads (relinked rs i n) i (y ∷ zs) 0
 unfolding Leads
 leads_relinked rs i n y zs w s l =
@@ -109,7 +109,7 @@ module _ (rs : List Record) (hs : List ℕ) (f : ℕ) (cs : List (List Entry)) (
 
   -- Record x of line j leaves it for the free line.
   module _ (front : List Entry) (y : Entry) (zs : List Entry) (b x : ℕ) (whole : get_or cs j [] ≡ front ++ (y ∷ zs))
-      (before : Leads rs (get_or hs j 0) front x) (last : Ends front b) (here : Step rs x y) (rest : Leads rs (at rs x).next zs 0) where
+      (before : Leads rs (get_or hs j 0) front x) (last : Ends front b) (here : Hop rs x y) (rest : Leads rs (at rs x).next zs 0) where
     pub view_unlinked : View (relinked (linked_records rs b (at rs x).next) x f) (linked_heads hs j b (at rs x).next) x (set cs j (front ++ zs)) (y ∷ fs)
     unfolding Leads count naming
     view_unlinked =
@@ -121,7 +121,7 @@ module _ (rs : List Record) (hs : List ℕ) (f : ℕ) (cs : List (List Entry)) (
         let nm : (o : ℕ) → naming o (front ++ zs) ≤ 1 =
         λ o. omega (arith, named_once o, ap (naming o) whole, naming_join o front (y ∷ zs), naming_join o front zs) in
         let ls = lines_linked rs v.rows hs cs v.lines j front zs b x n before last (λ p. ((w p).0, (w p).1, omega (arith, (w p).2))) rest nm in
-        let st : Step qs x y = (leads_linked rs b n x (y ∷ []) n (λ p. omega (arith, (w p).2)) (here, refl)).0 in
+        let st : Hop qs x y = (leads_linked rs b n x (y ∷ []) n (λ p. omega (arith, (w p).2)) (here, refl)).0 in
         let free : Leads qs f fs 0 = leads_linked rs b n f fs 0 (λ p. (w p).3) v.spare in
         let t : tally x (set cs j (front ++ zs)) ≡ 0 =
         omega (arith, tally_set x cs j [] room, tally_set x cs j (front ++ zs) room, count_join x front zs, a.0, a.1, a.2) in
@@ -136,7 +136,7 @@ module _ (rs : List Record) (hs : List ℕ) (f : ℕ) (cs : List (List Entry)) (
 
   -- Record x of line j takes another version.
   pub view_renewed : (x : ℕ) (w : Version) (ys : List Entry) (y : Entry) (zs : List Entry) → get_or cs j [] ≡ ys ++ (y ∷ zs)
-      → Leads rs (get_or hs j 0) ys x → Step rs x y → Leads rs (at rs x).next zs 0
+      → Leads rs (get_or hs j 0) ys x → Hop rs x y → Leads rs (at rs x).next zs 0
       → View (renewed rs x w) hs f (set cs j (ys ++ (record { slot = y.slot; pair = record { object = y.pair.object; version = w } } ∷ zs))) fs
   unfolding Leads count naming
   view_renewed x w ys y zs e l s r =
@@ -144,7 +144,7 @@ module _ (rs : List Record) (hs : List ℕ) (f : ℕ) (cs : List (List Entry)) (
       let qs = renewed rs x w in
       let al = alone x ys y zs (sym s.number) e in
       let a : at qs x ≡ record { version = w; object = (at rs x).object; next = (at rs x).next } = at_same rs x _ s.some (omega (arith, v.rows, s.within)) in
-      let st : Step qs x y' =
+      let st : Hop qs x y' =
       record {
         number = s.number;
         some = s.some;
@@ -180,7 +180,7 @@ module _ (rs : List Record) (hs : List ℕ) (f : ℕ) (cs : List (List Entry)) (
       }
 
   -- The first free record takes pair x and ends line j.
-  module _ (y : Entry) (gs : List Entry) (e : fs ≡ y ∷ gs) (s : Step rs f y) (r : Leads rs (at rs f).next gs 0) (x : Pair)
+  module _ (y : Entry) (gs : List Entry) (e : fs ≡ y ∷ gs) (s : Hop rs f y) (r : Leads rs (at rs f).next gs 0) (x : Pair)
       (b : ℕ) (last : Ends (get_or cs j []) b) (fresh : naming x.object (get_or cs j []) ≡ 0) where
     naming_appended : (q : ℕ) → naming q (get_or cs j [] ++ (record { slot = y.slot; pair = x } ∷ [])) ≤ 1
     unfolding naming

@@ -7,7 +7,7 @@ use Rattle.numbers.specs.declared.version.Version.{Version}
 use Rattle.rules.specs.declared.pairs.Pair.{Pair}
 use Rattle.rules.specs.Input.{names, queued, freed, used}
 use Rattle.chain.specs.declared.record.Entry.{Entry}
-use Rattle.chain.specs.Records.{at, relinked, linked_records, linked_heads, line, Step, Leads, naming, total, View, Sound, Ends, Stands}
+use Rattle.chain.specs.Records.{at, relinked, linked_records, linked_heads, line, Hop, Leads, naming, total, View, WellLinked, Ends, Stands}
 use Rattle.chain.specs.Waiting.{pairs_along, waiting_in, waiting_of, waiting_for, has_free, Found}
 use Rattle.chain.specs.declared.chains.Chains.{Chains}
 use Rattle.chain.specs.declared.chains.walk.Place.{Place}
@@ -87,7 +87,7 @@ module _ (s : Chains) (j : ℕ) (inside : j < 8) where
   cs = map (line rs) hs
 
   v : View rs hs f cs (line rs f)
-  v = viewed rs hs f s.sound
+  v = viewed rs hs f s.well_linked
 
   top : j < length hs
   top = omega (arith, v.tops, inside)
@@ -98,7 +98,7 @@ module _ (s : Chains) (j : ℕ) (inside : j < 8) where
 
   -- line j became c, whose pairs are ps
   became : (rs' : List Record) (hs' : List ℕ) (f' : ℕ) (fs' c : List Entry) (ps : List Pair) → View rs' hs' f' (set cs j c) fs'
-      → pairs_along c ≡ ps → Sound rs' hs' f' × (waiting_in rs' hs' ≡ set (waiting_of s) j ps)
+      → pairs_along c ≡ ps → WellLinked rs' hs' f' × (waiting_in rs' hs' ≡ set (waiting_of s) j ps)
   unfolding waiting_in
   became rs' hs' f' fs' c ps w e =
       (sealed rs' hs' f' _ fs' w, waiting_lines rs' hs' f' _ fs' w ∙ map-set pairs_along cs j c ∙ ap (set (waiting_of s) j) e)
@@ -118,12 +118,12 @@ module _ (s : Chains) (j : ℕ) (inside : j < 8) where
     pub none_free : has_free (waiting_of s) ≡ false
     none_free = le-ltb _ _ (omega (arith, waiting_used, ap length no_line))
 
-    pub released : Sound rs (set hs j 0) (get_or hs j 0) × (waiting_in rs (set hs j 0) ≡ set (waiting_of s) j [])
+    pub released : WellLinked rs (set hs j 0) (get_or hs j 0) × (waiting_in rs (set hs j 0) ≡ set (waiting_of s) j [])
     released = became rs (set hs j 0) (get_or hs j 0) _ [] [] (view_released rs hs f cs (line rs f) v j inside no_line) refl
 
   -- Where a record is free.
   module _ (some : 0 < f) where
-    next : (y : Entry) × (gs : List Entry) × (line rs f ≡ y ∷ gs) × Step rs f y × Leads rs (at rs f).next gs 0
+    next : (y : Entry) × (gs : List Entry) × (line rs f ≡ y ∷ gs) × Hop rs f y × Leads rs (at rs f).next gs 0
     next = some_left rs f (line rs f) v.spare some
 
     pub free_within : f ≤ records
@@ -147,7 +147,7 @@ module _ (s : Chains) (j : ℕ) (inside : j < 8) where
   pub found_at : (o b : ℕ) (front back : List Entry) → line rs (get_or hs j 0) ≡ front ++ back → Ends front b → naming o front ≡ 0
       → ((y : Entry) (zs : List Entry) → back ≡ y ∷ zs → y.pair.object ≡ o) → Found s j o (record { before = b; here = first back })
   found_at o b front back whole last none own =
-      let l = leads_parts rs (get_or hs j 0) front back (on_start rs hs f j s.sound inside) whole in
+      let l = leads_parts rs (get_or hs j 0) front back (on_start rs hs f j s.well_linked inside) whole in
       let st : Stands rs (get_or hs j 0) o b (first back) =
       record { front = front; back = back; whole = whole; before = l.0; after = l.1; last = last; none = none } in
       record {
@@ -176,7 +176,7 @@ module _ (s : Chains) (j : ℕ) (inside : j < 8) where
 
     -- The chain names the object, in record x.
     module _ (some : 0 < x) where
-      here : (y : Entry) × (zs : List Entry) × (st.back ≡ y ∷ zs) × Step rs x y × Leads rs (at rs x).next zs 0
+      here : (y : Entry) × (zs : List Entry) × (st.back ≡ y ∷ zs) × Hop rs x y × Leads rs (at rs x).next zs 0
       here = some_left rs x st.back st.after some
 
       whole : line rs (get_or hs j 0) ≡ st.front ++ (here.0 ∷ here.1)
@@ -212,7 +212,7 @@ module _ (s : Chains) (j : ℕ) (inside : j < 8) where
             waiting_same _ (ap (freed o w) waiting_whole ∙ freed_above o w st.front here.0 here.1 st.none not_after a ∙ sym waiting_whole)
 
         pub unlinked : (at rs x).version.0 ≤ w.0
-            → Sound (relinked (linked_records rs b (at rs x).next) x f) (linked_heads hs j b (at rs x).next) x
+            → WellLinked (relinked (linked_records rs b (at rs x).next) x f) (linked_heads hs j b (at rs x).next) x
             × (waiting_in (relinked (linked_records rs b (at rs x).next) x f) (linked_heads hs j b (at rs x).next) ≡ set (waiting_of s) j (freed o w (waiting_for s j)))
         unlinked l =
             let a = subst (λ u. u.0 ≤ w.0) y_version l in
@@ -236,7 +236,7 @@ module _ (s : Chains) (j : ℕ) (inside : j < 8) where
       abbrev zs : List Entry
       zs = (here q.object p found some).1
 
-      pub renewed_queued : Sound (renewed rs p.here q.version) hs f
+      pub renewed_queued : WellLinked (renewed rs p.here q.version) hs f
           × (waiting_in (renewed rs p.here q.version) hs ≡ set (waiting_of s) j (queued q (waiting_for s j)))
       renewed_queued =
           became _ hs f (line rs f) (front ++ (record { slot = y.slot; pair = q } ∷ zs)) _
@@ -257,7 +257,7 @@ module _ (s : Chains) (j : ℕ) (inside : j < 8) where
       line_front : get_or cs j [] ≡ front
       line_front = line_at rs hs j top ∙ whole_front q.object p.before p.here at_place gone
 
-      pub appended : Sound (linked_records (filled rs f q) p.before f) (linked_heads hs j p.before f) (at rs f).next
+      pub appended : WellLinked (linked_records (filled rs f q) p.before f) (linked_heads hs j p.before f) (at rs f).next
           × (waiting_in (linked_records (filled rs f q) p.before f) (linked_heads hs j p.before f) ≡ set (waiting_of s) j (queued q (waiting_for s j)))
       appended =
           became _ _ (at rs f).next gs (get_or cs j [] ++ (record { slot = y_free.slot; pair = q } ∷ [])) _

@@ -42,7 +42,7 @@ unfoldable pub line : List Record → ℕ → List Entry
 line rs h = walk rs records h
 
 -- number i is that of entry x, and its record holds the pair of x
-pub record Step (rs : List Record) (i : ℕ) (x : Entry) : Type 0 where
+pub record Hop (rs : List Record) (i : ℕ) (x : Entry) : Type 0 where
   pub number : i ≡ x.slot
   pub some : 0 < i
   pub within : i ≤ records
@@ -51,7 +51,7 @@ pub record Step (rs : List Record) (i : ℕ) (x : Entry) : Type 0 where
 -- from number i the records go through the entries, in their order, and then to number e
 unfoldable pub Leads : List Record → ℕ → List Entry → ℕ → Type 0
 Leads rs i [] e = i ≡ e
-Leads rs i (x ∷ xs) e = Step rs i x × Leads rs (at rs i).next xs e
+Leads rs i (x ∷ xs) e = Hop rs i x × Leads rs (at rs i).next xs e
 
 -- number x stands on a line that ends, or is 0
 abbrev pub On : List Record → ℕ → Type 0
@@ -95,8 +95,8 @@ pub record View (rs : List Record) (hs : List ℕ) (f : ℕ) (cs : List (List En
   pub tops : length hs ≡ 8
 
 -- what the heads and the first free number say of the records
-abbrev pub Sound : List Record → List ℕ → ℕ → Type 0
-Sound rs hs f = ∥ View rs hs f (map (line rs) hs) (line rs f) ∥₁
+abbrev pub WellLinked : List Record → List ℕ → ℕ → Type 0
+WellLinked rs hs f = ∥ View rs hs f (map (line rs) hs) (line rs f) ∥₁
 
 -- b is the number of the last entry, or 0 where there is none
 abbrev pub Ends : List Entry → ℕ → Type 0

@@ -1,4 +1,4 @@
-ghost use Rattle.chain.specs.Records.{Sound};
+ghost use Rattle.chain.specs.Records.{WellLinked};
 
 mod change;
 mod walk;
@@ -24,5 +24,5 @@ pub struct Chains {
     free: u8,
     // every record is free or in one chain, and in no second place; every chain ends, and names no
     // object twice
-    ghost sound: { Sound records heads free },
+    ghost well_linked: { WellLinked records heads free },
 }

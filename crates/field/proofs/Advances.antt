@@ -1,5 +1,5 @@
 -- Advancing: what its tests say, and what it leaves.
-use Rattle.std.proofs.Common.{◌≡◌, ℕ, zero, suc, ◌+◌, ◌<◌, ◌≤◌, Bool, true, false, cond, not, ◌&&◌, eqb, leb, List, length, take, drop, set, get_or, Some, None, sym, refl, ap, ◌∙◌, arith}
+use Rattle.std.proofs.Common.{◌≡◌, ℕ, zero, suc, ◌+◌, ◌<◌, ◌≤◌, Bool, true, not, ◌&&◌, eqb, leb, List, length, take, drop, set, get_or, Some, None, sym, refl, ap, ◌∙◌, arith}
 use Rattle.std.proofs.lemmas.List.{get_or-take, get_or-drop, length-take-le, length-drop}
 use Rattle.std.proofs.lemmas.Bool.{and_parts, not-false, eqb-true}
 use Rattle.quorum.specs.declared.refusal.Refusal.{Refusal}
@@ -11,7 +11,7 @@ use Rattle.rules.specs.Calls.{inputs_stay, outputs_stay, advancing_refusal, each
 use Rattle.rules.specs.Input.{Input, later_input}
 use Rattle.rules.specs.Output.{Output, later_output}
 use Rattle.rules.specs.Said.{accepted}
-use Rattle.rules.specs.State.{State, Outcome, outcome, refuse, no_input, no_output, input_at, output_at}
+use Rattle.rules.specs.State.{State, outcome, refuse, no_input, no_output, input_at, output_at}
 use Rattle.field.specs.Servers.{all_stay, all_later}
 use Rattle.field.proofs.Refusing.{passes, later_passes, call_refuses, call_passes}
 

@@ -1,5 +1,5 @@
 -- Beginning: what its tests say, and what it leaves.
-use Rattle.std.proofs.Common.{◌≡◌, ℕ, Some, None, ◌+◌, ◌<◌, ◌≤◌, not, leb, List, [], ◌∷◌, map, length, set, sym, refl, ap, ◌∙◌, arith}
+use Rattle.std.proofs.Common.{◌≡◌, ℕ, Some, None, ◌+◌, ◌<◌, ◌≤◌, not, leb, List, [], ◌∷◌, map, length, set, sym, ap, ◌∙◌, arith}
 use Rattle.std.proofs.lemmas.List.{length-map, map-set}
 use Rattle.std.proofs.lemmas.Bool.{not-false, leb-false, leb-true}
 use Rattle.quorum.specs.declared.refusal.Refusal.{Refusal}
@@ -17,11 +17,11 @@ use Rattle.rules.specs.State.{State, outcome, refuse, post}
 use Rattle.operation.specs.declared.table.Operation.{Operation}
 use Rattle.operation.specs.States.{operation_of}
 use Rattle.field.specs.declared.open_field.OpenField.{OpenField}
-use Rattle.field.specs.Sound.{Sound}
+use Rattle.field.specs.Invariant.{InBounds}
 use Rattle.field.specs.Views.{inputs_of, outputs_of, frame_of, state_of}
 use Rattle.field.proofs.Calling.{lent_of}
 use Rattle.field.proofs.Refusing.{passes, later_passes, call_refuses, call_passes}
-use Rattle.field.proofs.Sounds.{numbers_of}
+use Rattle.field.proofs.Invariant.{numbers_of}
 
 -- ---- the tests
 
@@ -40,16 +40,16 @@ pub record Beginnable (i o : System) (f : OpenField) (log : List Message) (table
   pub few : f.begun < 1024
   pub room : f.made + 9 ≤ length log
 
-pub beginnable : (i o : System) (f : OpenField) (log : List Message) (table : List Operation) (b : ℕ) → Sound (Some f)
+pub beginnable : (i o : System) (f : OpenField) (log : List Message) (table : List Operation) (b : ℕ) → InBounds (Some f)
     → None ≡ beginning_refusal i o b (state_of f log table) → Beginnable i o f log table b
-beginnable i o f log table b sound r =
+beginnable i o f log table b in_bounds r =
     let s = state_of f log table in
     let p = later_passes i o s _ (sym r) in
     let q = passes (leb f.counts.objects.number b) 21 _ p.2 in
     let t = passes (leb (length s.table) f.begun) 22 _ q.1 in
     let u = passes (not (has_room s.made s.log)) 23 None t.1 in
     let lent = lent_of i o f log table p.1 in
-    let numbers = numbers_of f sound in
+    let numbers = numbers_of f in_bounds in
     let object = leb-false f.counts.objects.number b q.0 in
     let free = leb-false (length s.table) f.begun t.0 in
     let few = f.counts.objects.inside in

@@ -1,5 +1,5 @@
 -- The calls of an open field: what their tests say of the rules' own calls, and what is known where the tests pass.
-use Rattle.std.proofs.Common.{◌≡◌, ℕ, ◌+◌, ◌≤◌, Bool, true, false, cond, not, ◌||◌, eqb, ltb, List, map, length, Some, None, sym, refl, ap, ◌∙◌, arith}
+use Rattle.std.proofs.Common.{◌≡◌, ℕ, ◌+◌, ◌≤◌, true, not, ◌||◌, eqb, ltb, List, map, length, Some, None, sym, ◌∙◌, arith}
 use Rattle.std.proofs.lemmas.List.{length-map}
 use Rattle.std.proofs.lemmas.Bool.{and_parts, or_parts, not-false, eqb-true, eqb-false, ltb-false, leb-true}
 use Rattle.quorum.specs.declared.refusal.Refusal.{Refusal}
@@ -13,10 +13,10 @@ use Rattle.operation.specs.declared.table.Operation.{Operation}
 use Rattle.operation.specs.States.{operation_of}
 use Rattle.field.specs.declared.open_field.OpenField.{OpenField}
 use Rattle.field.specs.Delivered.{Deliverable}
-use Rattle.field.specs.Sound.{Sound}
+use Rattle.field.specs.Invariant.{InBounds}
 use Rattle.field.specs.Views.{state_of}
 use Rattle.field.proofs.Refusing.{passes, later_passes, call_refuses, call_passes}
-use Rattle.field.proofs.Sounds.{Numbers, numbers_of, ready_of}
+use Rattle.field.proofs.Invariant.{Numbers, numbers_of, ready_of}
 
 -- ---- what is lent
 
@@ -60,9 +60,9 @@ pub record Passed (i o : System) (f : OpenField) (log : List Message) (table : L
   pub made : number ≤ f.made
   pub room : f.made + 9 ≤ length log
 
-pub delivery_passed : (i o : System) (f : OpenField) (log : List Message) (table : List Operation) (number : ℕ) → Sound (Some f)
+pub delivery_passed : (i o : System) (f : OpenField) (log : List Message) (table : List Operation) (number : ℕ) → InBounds (Some f)
     → None ≡ delivering_refusal i o number (state_of f log table) → Passed i o f log table number
-delivery_passed i o f log table number sound r =
+delivery_passed i o f log table number in_bounds r =
     let s = state_of f log table in
     let p = later_passes i o s _ (sym r) in
     let q = passes (eqb number 0 || ltb f.made number) 31 _ p.2 in
@@ -71,7 +71,7 @@ delivery_passed i o f log table number sound r =
     let some : number ≡ 0 → ⊥ = eqb-false number 0 u.0 in
     record {
       lent = lent_of i o f log table p.1;
-      numbers = numbers_of f sound;
+      numbers = numbers_of f in_bounds;
       low = grind arith;
       made = ltb-false f.made number u.1;
       room = leb-true (f.made + 9) (length log) (not-false (has_room s.made s.log) t.0);

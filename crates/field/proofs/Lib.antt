@@ -10,5 +10,5 @@ pub mod Opens
 pub mod Places
 pub mod Received
 pub mod Refusing
-pub mod Sounds
+pub mod Invariant
 pub mod Closed

@@ -1,5 +1,5 @@
 -- A call that refuses by its row of tests, or goes on: what is known then.
-use Rattle.std.proofs.Common.{◌≡◌, ℕ, Bool, true, false, cond, not, Some, None, Option, is_none, sym, refl, ap, ◌∙◌}
+use Rattle.std.proofs.Common.{◌≡◌, ℕ, Bool, true, false, cond, not, Some, None, Option, is_none, sym, refl, ap}
 use Rattle.std.proofs.lemmas.Bool.{false≢true, not-false}
 use Rattle.quorum.specs.declared.refusal.Refusal.{Refusal}
 use Rattle.quorum.specs.Refusals.{number_of}

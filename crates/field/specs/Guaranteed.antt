@@ -18,9 +18,10 @@ pub record LeadsTo (inputs outputs : System) (S : Story) (s : State) : Type 0 wh
   pub closed : S.start.frame.is_open ≡ false
   pub leads : before S (length S.calls) ≡ s
 
--- The read guarantee, whole, in the contract of a call. Whatever story led to the state s that the call found: that story
--- and then this call lead to the state t that the call left, what the call said is what the story's last call says, the
--- story is guaranteed, and its operations end exactly when their quorums are complete.
+-- The read guarantee, whole, in the contract of a call. Whatever story led to the state s that
+-- the call found: that story and then this call lead to the state t that the call left, what the
+-- call said is what the story's last call says, the story is guaranteed, and its operations end
+-- exactly when their quorums are complete.
 pub record Continues (inputs outputs : System) (c : Call) (S : Story) (said : Said) (t : State) : Type 0 where
   pub leads : LeadsTo inputs outputs (then S c) t
   pub says : said_at (then S c) (length S.calls) ≡ said

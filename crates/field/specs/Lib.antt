@@ -6,6 +6,6 @@ pub mod Opened
 pub mod MessageChecks
 pub mod Ready
 pub mod Servers
-pub mod Sound
+pub mod Invariant
 pub mod Unopened
 pub mod Views

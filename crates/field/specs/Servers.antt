@@ -25,7 +25,8 @@ first_outputs clocks = each 8 (λ j. first_output (starts_at clocks j) ∷ [])
 
 -- ---- time
 
--- the clock of server i can move by increment i, for each increment; none stands for a server that is not there
+-- the clock of server i can move by increment i, for each increment; none stands for a server
+-- that is not there
 abbrev pub all_stay : {A : Type 0} → (A → Time) → A → List ℕ → List A → Bool
 all_stay shows none increments servers =
     all_below (length increments) (λ i. nat_le ((shows (slice_index_or servers i none)).0 + slice_index increments i) last_time)

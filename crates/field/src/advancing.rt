@@ -22,7 +22,9 @@ impl OpenField {
         increments: &[u64],
     ) -> Result<(), Refusal>
         ensures does { let before = state_of self.old log.now table.now in
-            advancing (I.meaning systems.now.inputs) (O.meaning systems.now.outputs) increments.now before
+            let i = I.meaning systems.now.inputs in
+            let o = O.meaning systems.now.outputs in
+            advancing i o increments.now before
             ≡ outcome (acceptance result) (state_of self.new log.now table.now) }
         ensures same { OnErr result (self.new ≡ self.old) }
     {
@@ -42,8 +44,9 @@ impl OpenField {
         increments: &[u64],
     ) -> Result<(), Refusal>
         ensures { let s = state_of self.now log.now table.now in
-            refusal_said result
-            ≡ advancing_refusal (I.meaning systems.now.inputs) (O.meaning systems.now.outputs) increments.now s }
+            let i = I.meaning systems.now.inputs in
+            let o = O.meaning systems.now.outputs in
+            refusal_said result ≡ advancing_refusal i o increments.now s }
     {
         if !self.is_as_opened(log, table, systems) {
             return Err(Refusal::NotAsOpened);
@@ -62,10 +65,12 @@ impl OpenField {
 
     // Whether every clock can still be shown once it has moved by its increment.
     fn clocks_stay(&self, increments: &[u64]) -> bool
-        requires { length increments.now ≡ (frame_of self.now).counts.n + (frame_of self.now).counts.m }
+        requires { let counts = (frame_of self.now).counts in
+            length increments.now ≡ counts.n + counts.m }
         ensures { let s = state_of self.now [] [] in
             result
-            ≡ (inputs_stay increments.now s.frame.counts.n s && outputs_stay increments.now s.frame.counts.m s) }
+            ≡ (inputs_stay increments.now s.frame.counts.n s
+            && outputs_stay increments.now s.frame.counts.m s) }
     {
         let (of_inputs, of_outputs) = increments.split_at(self.counts.inputs.index());
         all_stay(&self.inputs, of_inputs) && all_stay(&self.outputs, of_outputs)

@@ -5,7 +5,7 @@ ghost use Rattle.rules.specs.declared.message.Message.{Message as AnyMessage};
 ghost use Rattle.rules.specs.Answers.{beginning_says, refusal_said};
 ghost use Rattle.rules.specs.Calls.{beginning_write, beginning_read, beginning_refusal, enter as entered};
 ghost use Rattle.rules.specs.State.{outcome};
-ghost use Rattle.field.specs.Sound.{Sound};
+ghost use Rattle.field.specs.Invariant.{InBounds};
 ghost use Rattle.field.specs.Views.{state_of};
 
 use crate::logging::{ClockQuestions, ReadRequests};
@@ -25,11 +25,14 @@ impl OpenField {
         object: u64,
         value: u64,
     ) -> Result<u16, Refusal>
-        requires { Sound (Some self.old) }
-        ensures does { beginning_write (I.meaning systems.now.inputs) (O.meaning systems.now.outputs) object value
+        requires { InBounds (Some self.old) }
+        ensures does { let i = I.meaning systems.now.inputs in
+            let o = O.meaning systems.now.outputs in
+            beginning_write i o object value
             (state_of self.old log.old table.old)
             ≡ outcome (beginning_says result) (state_of self.new log.new table.new) }
-        ensures same { OnErr result ((self.new ≡ self.old) × (log.new ≡ log.old) × (table.new ≡ table.old)) }
+        ensures same { OnErr result
+            ((self.new ≡ self.old) × (log.new ≡ log.old) × (table.new ≡ table.old)) }
     {
         self.check_beginning(log, table, systems, object)?;
         let operation = self.begun + 1;
@@ -39,8 +42,8 @@ impl OpenField {
         Ok(operation)
     }
 
-    // The next operation is a read, and a read request goes to every output server. It reads as the other
-    // beginning: it enters another state and asks the other side.
+    // The next operation is a read, and a read request goes to every output server. It reads as
+    // the other beginning: it enters another state and asks the other side.
     #[tactic(auto, using(crate::proofs::Begins::beginnable, crate::proofs::Begins::read_refuses))]
     pub(crate) fn begin_read<I: QuorumSystem, O: QuorumSystem>(
         &mut self,
@@ -49,11 +52,14 @@ impl OpenField {
         systems: &Systems<I, O>,
         object: u64,
     ) -> Result<u16, Refusal>
-        requires { Sound (Some self.old) }
-        ensures does { beginning_read (I.meaning systems.now.inputs) (O.meaning systems.now.outputs) object
+        requires { InBounds (Some self.old) }
+        ensures does { let i = I.meaning systems.now.inputs in
+            let o = O.meaning systems.now.outputs in
+            beginning_read i o object
             (state_of self.old log.old table.old)
             ≡ outcome (beginning_says result) (state_of self.new log.new table.new) }
-        ensures same { OnErr result ((self.new ≡ self.old) × (log.new ≡ log.old) × (table.new ≡ table.old)) }
+        ensures same { OnErr result
+            ((self.new ≡ self.old) × (log.new ≡ log.old) × (table.new ≡ table.old)) }
     {
         self.check_beginning(log, table, systems, object)?;
         let operation = self.begun + 1;
@@ -75,9 +81,10 @@ impl OpenField {
         systems: &Systems<I, O>,
         object: u64,
     ) -> Result<(), Refusal>
-        ensures { refusal_said result
-            ≡ beginning_refusal (I.meaning systems.now.inputs) (O.meaning systems.now.outputs) object
-            (state_of self.now log.now table.now) }
+        ensures { let i = I.meaning systems.now.inputs in
+            let o = O.meaning systems.now.outputs in
+            refusal_said result
+            ≡ beginning_refusal i o object (state_of self.now log.now table.now) }
     {
         if !self.is_as_opened(log, table, systems) {
             return Err(Refusal::NotAsOpened);

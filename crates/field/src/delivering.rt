@@ -4,7 +4,7 @@ ghost use Rattle.rules.specs.Answers.{delivery_says, refusal_said};
 ghost use Rattle.rules.specs.Calls.{hands_over, delivering, delivering_refusal};
 ghost use Rattle.rules.specs.State.{outcome};
 ghost use Rattle.field.specs.Delivered.{numbered, Deliverable};
-ghost use Rattle.field.specs.Sound.{Sound};
+ghost use Rattle.field.specs.Invariant.{InBounds};
 ghost use Rattle.field.specs.Views.{state_of};
 
 use crate::open_field::OpenField;
@@ -22,11 +22,14 @@ impl OpenField {
         systems: &Systems<I, O>,
         number: u64,
     ) -> Result<Delivery, Refusal>
-        requires { Sound (Some self.old) }
-        ensures does { delivering (I.meaning systems.now.inputs) (O.meaning systems.now.outputs) number
+        requires { InBounds (Some self.old) }
+        ensures does { let i = I.meaning systems.now.inputs in
+            let o = O.meaning systems.now.outputs in
+            delivering i o number
             (state_of self.old log.old table.old)
             ≡ outcome (delivery_says result) (state_of self.new log.new table.new) }
-        ensures same { OnErr result ((self.new ≡ self.old) × (log.new ≡ log.old) × (table.new ≡ table.old)) }
+        ensures same { OnErr result
+            ((self.new ≡ self.old) × (log.new ≡ log.old) × (table.new ≡ table.old)) }
     {
         self.check_message(log, table, systems, number)?;
         self.hand_over(log, table, systems, number)
@@ -40,9 +43,10 @@ impl OpenField {
         systems: &Systems<I, O>,
         number: u64,
     ) -> Result<(), Refusal>
-        ensures { refusal_said result
-            ≡ delivering_refusal (I.meaning systems.now.inputs) (O.meaning systems.now.outputs) number
-            (state_of self.now log.now table.now) }
+        ensures { let i = I.meaning systems.now.inputs in
+            let o = O.meaning systems.now.outputs in
+            refusal_said result
+            ≡ delivering_refusal i o number (state_of self.now log.now table.now) }
     {
         if !self.is_as_opened(log, table, systems) {
             return Err(Refusal::NotAsOpened);
@@ -56,8 +60,8 @@ impl OpenField {
         Ok(())
     }
 
-    // The message is handed to the server or the operation that it is for, kind by kind. Each tests the
-    // numbers of the message, and refuses 33 where one is out of range.
+    // The message is handed to the server or the operation that it is for, kind by kind. Each
+    // tests the numbers of the message, and refuses 33 where one is out of range.
     fn hand_over<I: QuorumSystem, O: QuorumSystem>(
         &mut self,
         log: &mut [Message],
@@ -65,13 +69,16 @@ impl OpenField {
         systems: &Systems<I, O>,
         number: u64,
     ) -> Result<Delivery, Refusal>
-        requires { Deliverable (I.meaning systems.now.inputs) (O.meaning systems.now.outputs)
+        requires { let i = I.meaning systems.now.inputs in
+            let o = O.meaning systems.now.outputs in
+            Deliverable i o
             self.old log.old table.old number }
         ensures does { let i = I.meaning systems.now.inputs in
             let o = O.meaning systems.now.outputs in
             hands_over i o (numbered log.old number) (state_of self.old log.old table.old)
             ≡ outcome (delivery_says result) (state_of self.new log.new table.new) }
-        ensures same { OnErr result ((self.new ≡ self.old) × (log.new ≡ log.old) × (table.new ≡ table.old)) }
+        ensures same { OnErr result
+            ((self.new ≡ self.old) × (log.new ≡ log.old) × (table.new ≡ table.old)) }
     {
         match log[number as usize - 1] {
             Message::ClockQuestion { operation, input } => {

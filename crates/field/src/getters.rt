@@ -1,6 +1,7 @@
-// What can be seen of a field from outside. Nothing is changed by looking, and a field that is not
-// yet open has no servers, no objects, no messages and no operations. Each look is of another number, and
-// its contract says which: one that is asked for a kind of number would promise less plainly.
+// What can be seen of a field from outside. Nothing is changed by looking, and a field that is
+// not yet open has no servers, no objects, no messages and no operations. Each look is of another
+// number, and its contract says which: one that is asked for a kind of number would promise less
+// plainly.
 ghost use Rattle.std.specs.Prelude.{◌≡◌, []};
 ghost use Rattle.field.specs.Getters.{of_open, input_clock, output_clock};
 ghost use Rattle.field.specs.Fields.{lent_to};

@@ -19,3 +19,10 @@ mod to_servers;
 
 pub use field::Field;
 pub use opening::Opening;
+
+// The types of the calls and the two built-in systems, so that one `use` of this crate is enough
+// to run a field.
+pub use numbers::Time;
+pub use operation::Operation;
+pub use quorum::{Majority, QuorumSystem, ReadOneWriteAll, Refusal, Systems};
+pub use rules::{Delivery, Message};

@@ -13,8 +13,9 @@ use numbers::ServerCount;
 use operation::SendingWrite;
 use rules::{Log, Message};
 
-// A message for each server of a side. It is a trait, and no closure: `log_all` names each message in its
-// promise, and of a closure every caller would have to say first which function it computes.
+// A message for each server of a side. It is a trait, and no closure: `log_all` names each
+// message in its promise, and of a closure every caller would have to say first which function it
+// computes.
 pub(crate) trait Requests {
     ghost message: { Self → ℕ → AnyMessage };
 
@@ -58,7 +59,8 @@ impl Requests for ReadRequests {
 }
 
 impl Requests for SendingWrite {
-    ghost message = { λ w i. WriteRequest (sending_of w).operation i (sending_of w).object (sending_of w).version (sending_of w).value };
+    ghost message = { λ w i. let x = sending_of w in
+        WriteRequest x.operation i x.object x.version x.value };
 
     fn request(&self, number: u8) -> Message {
         Message::WriteRequest {
@@ -80,7 +82,9 @@ impl OpenField {
         count: ServerCount,
     )
         requires { self.old.made + 9 ≤ length log.old }
-        ensures { (t : List Place) → state_of self.new log.new t ≡ post (each count.number (λ i. R.message requests.now i ∷ [])) (state_of self.old log.old t) }
+        ensures { (t : List Place) →
+            let sends = each count.number (λ i. R.message requests.now i ∷ []) in
+            state_of self.new log.new t ≡ post sends (state_of self.old log.old t) }
     {
         let mut log = Log::new(log, self.made);
         // a `for`: after `for_each` a proof knows nothing of the log that its closure writes

@@ -16,7 +16,8 @@ use quorum::Refusal;
 use rules::{Counts, Message};
 
 impl OpenField {
-    // The operation with that number, if it is begun and its state is in range. Refuses 33 otherwise.
+    // The operation with that number, if it is begun and its state is in range. Refuses 33
+    // otherwise.
     pub(crate) fn known(
         &self,
         table: &[Operation],
@@ -24,8 +25,8 @@ impl OpenField {
     ) -> Result<OperationNumber, Refusal>
         requires few { self.now.begun ≤ last_operation }
         requires begun { self.now.begun ≤ length table.now }
-        ensures { TestsRange (λ p. p.number)
-            (known_in (frame_of self.now).counts self.now.begun table.now operation) operation result }
+        ensures { let known = known_in (frame_of self.now).counts self.now.begun table.now in
+            TestsRange (λ p. p.number) (known operation) operation result }
     {
         if !self.knows(table, operation) {
             return Err(Refusal::OutOfRange);
@@ -35,16 +36,19 @@ impl OpenField {
 
     pub(crate) fn is_in_range(&self, message: &Message, table: &[Operation]) -> bool
         requires { self.now.begun ≤ length table.now }
-        ensures { (log : List AnyMessage) → result ≡ in_range message.now (state_of self.now log table.now) }
+        ensures { (log : List AnyMessage) →
+            result ≡ in_range message.now (state_of self.now log table.now) }
     {
         self.counts.fit(message) && self.has_operation(message, table)
     }
 
-    // The operation that the message names, if it is of a kind that names one. It reads as `State::is_named`,
-    // which asks the same of one state that is kept alone and of its own number.
+    // The operation that the message names, if it is of a kind that names one. It reads as
+    // `State::is_named`, which asks the same of one state that is kept alone and of its own
+    // number.
     fn has_operation(&self, message: &Message, table: &[Operation]) -> bool
         requires { self.now.begun ≤ length table.now }
-        ensures { result ≡ operation_fits (known_in (frame_of self.now).counts self.now.begun table.now) (λ p. has_next_clock (place_of table.now p)) message.now }
+        ensures { let known = known_in (frame_of self.now).counts self.now.begun table.now in
+            result ≡ operation_fits known (λ p. has_next_clock (place_of table.now p)) message.now }
     {
         let Some(operation) = message.operation() else {
             return true;
@@ -72,7 +76,8 @@ impl OpenField {
     // And there is a clock above the one that it gathered, if it is an asking write.
     fn knows_with_room(&self, table: &[Operation], operation: u16) -> bool
         requires { self.now.begun ≤ length table.now }
-        ensures { result ≡ (known_in (frame_of self.now).counts self.now.begun table.now operation && has_next_clock (place_of table.now operation)) }
+        ensures { let known = known_in (frame_of self.now).counts self.now.begun table.now in
+            result ≡ (known operation && has_next_clock (place_of table.now operation)) }
     {
         self.knows(table, operation) && leaves_next_clock(table, operation)
     }

@@ -15,8 +15,9 @@ use quorum::Refusal;
 use rules::{Counts, MOST_MESSAGES, MOST_OPERATIONS, STEP_MESSAGES};
 
 impl OpenField {
-    // Every server begins in its first state, with its start clock. It is handed what the tests of an
-    // opening were, one by one: no third function takes them all. Each of them was found to be in range.
+    // Every server begins in its first state, with its start clock. It is handed what the tests
+    // of an opening were, one by one: no third function takes them all. Each of them was found to
+    // be in range.
     pub(crate) fn new(
         n: u8,
         m: u8,
@@ -26,7 +27,8 @@ impl OpenField {
         table_len: usize,
     ) -> OpenField
         requires { OpeningFits n m opening.objects opening.lease opening.drift clocks.now }
-        ensures frame { frame_of result ≡ opened_frame n m opening.objects opening.lease opening.drift log_len table_len }
+        ensures frame { let x = opening in
+            frame_of result ≡ opened_frame n m x.objects x.lease x.drift log_len table_len }
         ensures counters { (result.made ≡ 0) × (result.begun ≡ 0) }
         ensures inputs { inputs_of result.inputs ≡ first_inputs (take n clocks.now) }
         ensures outputs { outputs_of result.outputs ≡ first_outputs (drop n clocks.now) }
@@ -49,15 +51,16 @@ impl OpenField {
     }
 }
 
-/// What a field is opened with, beside its systems and start clocks. Any numbers may stand here: opening
-/// refuses those that are out of their ranges.
+/// What a field is opened with, beside its systems and start clocks. Any numbers may stand here:
+/// opening refuses those that are out of their ranges.
 #[derive(Clone, Copy)]
 pub struct Opening {
     /// How many objects: 1 to 16.
     pub objects: u64,
     /// How long a lease lasts, in microseconds: 1 to 1,000,000,000.
     pub lease: u64,
-    /// The most by which two clocks may disagree about how much time has passed, in thousandths: 0 to 999.
+    /// The most by which two clocks may disagree about how much time has passed, in thousandths:
+    /// 0 to 999.
     pub drift: u64,
 }
 
@@ -68,9 +71,9 @@ fn clocks_fit(clocks: &[Time]) -> bool
     clocks.iter().all(|clock| clock.is_shown())
 }
 
-// The first refusal that an opening of a field meets that is not open. Its numbers are tested wide, as
-// the caller gives them: each test has its own refusal, and the type of a lease length takes 0, which an
-// opening refuses.
+// The first refusal that an opening of a field meets that is not open. Its numbers are tested
+// wide, as the caller gives them: each test has its own refusal, and the type of a lease length
+// takes 0, which an opening refuses.
 pub(crate) fn check_opening(
     n: u8,
     m: u8,
@@ -79,7 +82,9 @@ pub(crate) fn check_opening(
     log_len: usize,
     table_len: usize,
 ) -> Result<(), Refusal>
-    ensures { refusal_said result ≡ opening_refusal false n m opening.objects opening.lease opening.drift clocks.now log_len table_len }
+    ensures { let x = opening in
+        refusal_said result
+        ≡ opening_refusal false n m x.objects x.lease x.drift clocks.now log_len table_len }
 {
     if n > InputIndex::LIMIT || m > OutputIndex::LIMIT {
         return Err(Refusal::TooManyMembers);

@@ -110,7 +110,9 @@ pub(crate) fn clock_at<S: Server>(
     count: ServerCount,
     number: u8,
 ) -> Option<Time>
-    ensures { result ≡ cond (nat_lt number count.number) (Some (S.shows (slice_index_or (map S.kept servers.now) number (S.first (record { 0 = 0 }))))) None }
+    ensures { let first = S.first (record { 0 = 0 }) in
+        let at : S.Kept = slice_index_or (map S.kept servers.now) number first in
+        result ≡ cond (nat_lt number count.number) (Some (S.shows at)) None }
 {
     if number < count.get() {
         Some(servers[number as usize].clock())
@@ -126,10 +128,12 @@ fn stays(clock: Time, increment: u64) -> bool
     Moment::try_from(clock).is_ok_and(|moment| moment.later(increment).is_some())
 }
 
-// Whether the clock of each of the first servers can still be shown once it has moved by its increment.
+// Whether the clock of each of the first servers can still be shown once it has moved by its
+// increment.
 pub(crate) fn all_stay<S: Server>(servers: &[S; SERVERS], increments: &[u64]) -> bool
     requires { length increments.now ≤ 8 }
-    ensures { result ≡ all_stay S.shows (S.first (record { 0 = 0 })) increments.now (map S.kept servers.now) }
+    ensures { let first = S.first (record { 0 = 0 }) in
+        result ≡ all_stay S.shows first increments.now (map S.kept servers.now) }
 {
     servers
         .iter()
@@ -140,8 +144,12 @@ pub(crate) fn all_stay<S: Server>(servers: &[S; SERVERS], increments: &[u64]) ->
 // Each of the first servers moves by its increment.
 pub(crate) fn tick_all<S: Server>(servers: &mut [S; SERVERS], increments: &[u64])
     requires few { length increments.now ≤ 8 }
-    requires stay { all_stay S.shows (S.first (record { 0 = 0 })) increments.now (map S.kept servers.old) ≡ true }
-    ensures { map S.kept servers.new ≡ all_later S.later (S.first (record { 0 = 0 })) increments.now (length increments.now) (map S.kept servers.old) }
+    requires stay { let first = S.first (record { 0 = 0 }) in
+        all_stay S.shows first increments.now (map S.kept servers.old) ≡ true }
+    ensures { let first = S.first (record { 0 = 0 }) in
+        let micros = increments.now in
+        map S.kept servers.new
+        ≡ all_later S.later first micros (length micros) (map S.kept servers.old) }
 {
     // by place: a proof knows nothing of the servers after `iter_mut().zip(..)`
     for (place, increment) in increments.iter().enumerate() {

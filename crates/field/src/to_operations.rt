@@ -16,8 +16,8 @@ use quorum::{QuorumSystem, Refusal, Systems};
 use rules::{Delivery, Message};
 
 impl OpenField {
-    // The operation is handed the message of that number, an answer to it. Refuses 33 where a number of the
-    // message or of the operation's state is out of range.
+    // The operation is handed the message of that number, an answer to it. Refuses 33 where a
+    // number of the message or of the operation's state is out of range.
     pub(crate) fn hear<I: QuorumSystem, O: QuorumSystem>(
         &mut self,
         log: &mut [Message],
@@ -26,14 +26,17 @@ impl OpenField {
         number: u64,
         operation: u16,
     ) -> Result<Delivery, Refusal>
-        requires deliverable { Deliverable (I.meaning systems.now.inputs) (O.meaning systems.now.outputs)
+        requires deliverable { let i = I.meaning systems.now.inputs in
+            let o = O.meaning systems.now.outputs in
+            Deliverable i o
             self.old log.old table.old number }
         requires answers { IsAnswerTo operation (numbered log.old number) }
         ensures does { let i = I.meaning systems.now.inputs in
             let o = O.meaning systems.now.outputs in
             hands_over i o (numbered log.old number) (state_of self.old log.old table.old)
             ≡ outcome (delivery_says result) (state_of self.new log.new table.new) }
-        ensures same { OnErr result ((self.new ≡ self.old) × (log.new ≡ log.old) × (table.new ≡ table.old)) }
+        ensures same { OnErr result
+            ((self.new ≡ self.old) × (log.new ≡ log.old) × (table.new ≡ table.old)) }
     {
         if !self.is_in_range(&log[number as usize - 1], table) {
             return Err(Refusal::OutOfRange);
@@ -41,8 +44,8 @@ impl OpenField {
         Ok(self.react(log, table, systems, number, operation))
     }
 
-    // What the operation makes of it. That it has a place is asked and not kept in a value: the table is lent
-    // anew with each call.
+    // What the operation makes of it. That it has a place is asked and not kept in a value: the
+    // table is lent anew with each call.
     fn react<I: QuorumSystem, O: QuorumSystem>(
         &mut self,
         log: &mut [Message],
@@ -51,9 +54,13 @@ impl OpenField {
         number: u64,
         operation: u16,
     ) -> Delivery
-        requires deliverable { Deliverable (I.meaning systems.now.inputs) (O.meaning systems.now.outputs)
+        requires deliverable { let i = I.meaning systems.now.inputs in
+            let o = O.meaning systems.now.outputs in
+            Deliverable i o
             self.old log.old table.old number }
-        requires reached { Reached (I.meaning systems.now.inputs) (O.meaning systems.now.outputs)
+        requires reached { let i = I.meaning systems.now.inputs in
+            let o = O.meaning systems.now.outputs in
+            Reached i o
             table.old operation (numbered log.old number) }
         ensures { let i = I.meaning systems.now.inputs in
             let o = O.meaning systems.now.outputs in
@@ -77,7 +84,8 @@ impl OpenField {
         ensures place { (i : System) → operation_of result.0 ≡ (place_step i reaction).next }
         ensures says { (i : System) → end_of result.1 ≡ (place_step i reaction).said }
         ensures sends { (i : System) (t : List Place) → i.count ≡ self.old.counts.inputs.number
-            → state_of self.new log.new t ≡ post (place_step i reaction).sends (state_of self.old log.old t) }
+            → state_of self.new log.new t
+            ≡ post (place_step i reaction).sends (state_of self.old log.old t) }
     {
         match reaction {
             Reaction::On(after) => (after, Delivery::NothingEnded),

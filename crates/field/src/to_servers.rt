@@ -1,8 +1,9 @@
-// What the servers do with messages, a function for each kind: each tests the numbers of its message, and
-// hands what the tests gave to the step of its server. Where a number is out of range it refuses 33. That the
-// field is ready for one message more is asked of each, since the log is lent anew with each call and no
-// value can carry that its places are free. Each opens a `Log` and takes its count back: a closure that did
-// so would hide from the proof what it changes.
+// What the servers do with messages, a function for each kind: each tests the numbers of its
+// message, and hands what the tests gave to the step of its server. Where a number is out of
+// range it refuses 33. That the field is ready for one message more is asked of each, since the
+// log is lent anew with each call and no value can carry that its places are free. Each opens a
+// `Log` and takes its count back: a closure that did so would hide from the proof what it
+// changes.
 ghost use Rattle.std.specs.Prelude.{◌≡◌, ◌≤◌, true, List, length, OnErr};
 ghost use Rattle.operation.specs.declared.table.Operation.{Operation as Place};
 ghost use Rattle.quorum.specs.Systems.{System};
@@ -30,7 +31,8 @@ impl OpenField {
         requires ready { Ready self.old log.old }
         requires begun { self.old.begun ≤ length table.now }
         ensures does { (i o : System) →
-            hands_over i o (Message.ClockQuestion operation input) (state_of self.old log.old table.now)
+            let message = Message.ClockQuestion operation input in
+            hands_over i o message (state_of self.old log.old table.now)
             ≡ outcome (handing_says result) (state_of self.new log.new table.now) }
         ensures same { OnErr result ((self.new ≡ self.old) × (log.new ≡ log.old)) }
     {
@@ -85,7 +87,8 @@ impl OpenField {
     ) -> Result<(), Refusal>
         requires ready { Ready self.old log.old }
         ensures does { (i o : System) (t : List Place) →
-            hands_over i o (Message.RenewalRequest output input renewal) (state_of self.old log.old t)
+            let message = Message.RenewalRequest output input renewal in
+            hands_over i o message (state_of self.old log.old t)
             ≡ outcome (handing_says result) (state_of self.new log.new t) }
         ensures same { OnErr result ((self.new ≡ self.old) × (log.new ≡ log.old)) }
     {
@@ -182,7 +185,8 @@ impl OpenField {
     ) -> Result<(), Refusal>
         requires ready { Ready self.old log.old }
         ensures does { (i o : System) (t : List Place) →
-            hands_over i o (Message.RenewalAnswer input output renewed) (state_of self.old log.old t)
+            let message = Message.RenewalAnswer input output renewed in
+            hands_over i o message (state_of self.old log.old t)
             ≡ outcome (handing_says result) (state_of self.new log.new t) }
         ensures same { OnErr result ((self.new ≡ self.old) × (log.new ≡ log.old)) }
     {

@@ -5,8 +5,8 @@ ghost use Rattle.field_bench.specs.Grids.{touches, fills, grid, grid_lawful};
 use quorum::{MemberSet, QuorumSystem, Refusal};
 
 /// A quorum system of two rows: column c has the members 2c and 2c + 1. A set with a member of
-/// every column is a read set, and a set with a whole column is a write set. Two write sets may have
-/// no member in common.
+/// every column is a read set, and a set with a whole column is a write set. Two write sets may
+/// have no member in common.
 #[derive(Clone, Copy, Debug, PartialEq, Eq)]
 pub struct Grid {
     columns: u8,

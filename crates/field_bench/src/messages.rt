@@ -75,7 +75,8 @@ pub fn renewal_request(output: u8, input: u8, parts: Parts, object: u8, stamp: u
     }
 }
 
-/// What an input server grants with a renewal answer: all that it carries but its ends and its object.
+/// What an input server grants with a renewal answer: all that it carries but its ends and its
+/// object.
 #[derive(Clone, Copy)]
 pub struct Grant {
     pub parts: Parts,

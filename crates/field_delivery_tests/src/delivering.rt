@@ -55,8 +55,8 @@ fn a_log_of_65535_is_filled(rt: HostRuntime) -> Result<(), Fail> {
     bench.expect_last(65_527, &[clock_answer(0, 1, 1)])
 }
 
-// Eight output servers hold a copy under a live lease, so that a write request makes nine messages, as
-// many as any delivery: they take the last nine places of the log.
+// Eight output servers hold a copy under a live lease, so that a write request makes nine
+// messages, as many as any delivery: they take the last nine places of the log.
 #[test]
 fn nine_messages_in_the_last_nine_places(rt: HostRuntime) -> Result<(), Fail> {
     let mut bench = closed(rt.alloc(), 1, 8, 36, 4)?.opened(opening(1))?;

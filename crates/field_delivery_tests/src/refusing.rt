@@ -16,9 +16,9 @@ const WRITTEN: Version = Version(131_073);
 
 type Busy = Bench<Majority, Majority>;
 
-// Two servers on each side, all of which are needed. Operation 1 writes 7 to object 0: it has its version,
-// and input server 0 has taken it. Operation 2 writes 8 to object 1, and has heard one clock. Operation 3
-// reads object 0, and has heard output server 0.
+// Two servers on each side, all of which are needed. Operation 1 writes 7 to object 0: it has its
+// version, and input server 0 has taken it. Operation 2 writes 8 to object 1, and has heard one
+// clock. Operation 3 reads object 0, and has heard output server 0.
 fn busy(alloc: Global) -> Result<Busy, Fail> {
     let mut bench = by_majority(alloc, 2, 2)?;
     bench.write(0, 7)?;
@@ -92,7 +92,8 @@ fn refuses_others(bench: &mut Busy) -> Result<(), Fail> {
     Ok(())
 }
 
-// Messages that would move each of the three operations and both kinds of server, were they in range.
+// Messages that would move each of the three operations and both kinds of server, were they in
+// range.
 fn refuses_messages(bench: &mut Busy) -> Result<(), Fail> {
     let bad = [
         clock_answer(1, 2, 65_535),

@@ -62,8 +62,8 @@ fn grid_of_inputs(alloc: Global) -> Result<Bench<Grid, Majority>, Fail> {
     Ok(Bench::new(lent).opened(opening(1))?)
 }
 
-// A write of 7. The clocks of input servers 0 and 1, a whole column, are not enough for a version; with
-// that of input server 2 they touch both columns.
+// A write of 7. The clocks of input servers 0 and 1, a whole column, are not enough for a
+// version; with that of input server 2 they touch both columns.
 fn with_version(alloc: Global) -> Result<Bench<Grid, Majority>, Fail> {
     let mut bench = grid_of_inputs(alloc)?;
     bench.expect_write(0, 7, 1)?;
@@ -80,8 +80,8 @@ fn with_version(alloc: Global) -> Result<Bench<Grid, Majority>, Fail> {
     Ok(bench)
 }
 
-// Input servers 0 and 2 shut every output server out, which touches both columns but fills none; with
-// input server 3 a column is full. Input server 1 never hears of the write.
+// Input servers 0 and 2 shut every output server out, which touches both columns but fills none;
+// with input server 3 a column is full. Input server 1 never hears of the write.
 fn written(alloc: Global) -> Result<Bench<Grid, Majority>, Fail> {
     let mut bench = with_version(alloc)?;
     bench.nothing_ends(&[8, 10, 11, 12, 13])?;
@@ -101,8 +101,8 @@ fn inputs_by_a_grid_take_a_write(rt: HostRuntime) -> Result<(), Fail> {
     Ok(())
 }
 
-// Output server 0 has good copies of input servers 0 and 1, a column that is not enough to answer by,
-// though it has the newest pair: the two others are asked.
+// Output server 0 has good copies of input servers 0 and 1, a column that is not enough to answer
+// by, though it has the newest pair: the two others are asked.
 fn one_answer(alloc: Global) -> Result<Bench<Grid, Majority>, Fail> {
     let mut bench = written(alloc)?;
     bench.expect_read(0, 2)?;
@@ -150,8 +150,8 @@ fn grid_of_outputs(alloc: Global) -> Result<Bench<Majority, Grid>, Fail> {
     Ok(Bench::new(lent).opened(opening(1))?)
 }
 
-// A read that hears output servers 1 and 0, a whole column, and ends only with output server 2. Each of
-// the three has then a copy and a lease from input servers 0 and 1.
+// A read that hears output servers 1 and 0, a whole column, and ends only with output server 2.
+// Each of the three has then a copy and a lease from input servers 0 and 1.
 fn first_read(alloc: Global) -> Result<Bench<Majority, Grid>, Fail> {
     let mut bench = grid_of_outputs(alloc)?;
     bench.expect_read(0, 1)?;
@@ -171,8 +171,8 @@ fn outputs_by_a_grid_answer_a_read(rt: HostRuntime) -> Result<(), Fail> {
     Ok(())
 }
 
-// A write of 7. Output server 3 has no copy and is shut out by input servers 0 and 1; the three others
-// are to be told. One of them is not enough to fill a column alone.
+// A write of 7. Output server 3 has no copy and is shut out by input servers 0 and 1; the three
+// others are to be told. One of them is not enough to fill a column alone.
 fn waited(alloc: Global) -> Result<Bench<Majority, Grid>, Fail> {
     let mut bench = first_read(alloc)?;
     bench.expect_write(0, 7, 2)?;
@@ -193,8 +193,8 @@ fn waited(alloc: Global) -> Result<Bench<Majority, Grid>, Fail> {
     Ok(bench)
 }
 
-// Once output server 2 has acknowledged to both input servers, the column {2, 3} counts, and the write
-// ends, while output servers 0 and 1 still serve the old copy.
+// Once output server 2 has acknowledged to both input servers, the column {2, 3} counts, and the
+// write ends, while output servers 0 and 1 still serve the old copy.
 fn later(alloc: Global) -> Result<Bench<Majority, Grid>, Fail> {
     let mut bench = waited(alloc)?;
     bench.nothing_ends(&[33, 37, 39, 40, 28, 43, 29])?;

@@ -1,5 +1,5 @@
-// Operations of a field from their beginning to their end, by example: in the smallest field, and where a
-// quorum system of the tests' own stands on either side.
+// Operations of a field from their beginning to their end, by example: in the smallest field, and
+// where a quorum system of the tests' own stands on either side.
 #![tactic(auto)]
 
 #[cfg(test)]

@@ -1,5 +1,5 @@
-// The smallest field: one input server, one output server, one object. Every message of a write, of a
-// read, and of a second write that meets the copy that the read left.
+// The smallest field: one input server, one output server, one object. Every message of a write,
+// of a read, and of a second write that meets the copy that the read left.
 use field_bench::messages::{
     Grant, clock_answer, clock_question, invalidation, invalidation_answer, list_of, read_answer,
     read_ended, read_request, renewal_request, write_answer, write_ended, write_request,
@@ -39,8 +39,8 @@ fn a_write_takes_four_messages(rt: HostRuntime) -> Result<(), Fail> {
     bench.expect_last(1, &made)
 }
 
-// A read, which ends with the delivery of message 8. The output server has a copy now, and a lease: at
-// the input server until 1,000, and by its own clock until 990.
+// A read, which ends with the delivery of message 8. The output server has a copy now, and a
+// lease: at the input server until 1,000, and by its own clock until 990.
 fn read(alloc: Global) -> Result<Smallest, Fail> {
     let mut bench = written(alloc)?;
     bench.expect_read(0, 2)?;
@@ -94,8 +94,8 @@ fn a_write_ends_once_the_copy_is_given_up(rt: HostRuntime) -> Result<(), Fail> {
     bench.expect_end(15, write_ended(3, SECOND, 9))
 }
 
-// The output server is told nothing: messages 12 and 14 are never delivered. At 999 its lease is live
-// at the input server, and at 1,000 no more.
+// The output server is told nothing: messages 12 and 14 are never delivered. At 999 its lease is
+// live at the input server, and at 1,000 no more.
 fn run_out(alloc: Global) -> Result<Smallest, Fail> {
     let mut bench = waiting(alloc)?;
     bench.advance(&[999; 2])?;
@@ -141,8 +141,8 @@ fn a_read_after_that_is_not_behind(rt: HostRuntime) -> Result<(), Fail> {
     bench.expect_end(23, read_ended(4, SECOND, 9))
 }
 
-// The second write has not ended, so the first may still be read, by the output server's clock until
-// 990: the length of the lease less the drift.
+// The second write has not ended, so the first may still be read, by the output server's clock
+// until 990: the length of the lease less the drift.
 #[test]
 fn a_copy_is_given_until_its_lease_ends(rt: HostRuntime) -> Result<(), Fail> {
     let mut bench = waiting(rt.alloc())?;

@@ -1,4 +1,5 @@
-// Messages and states of any numbers, put into log and table by the caller: which are in range, by example.
+// Messages and states of any numbers, put into log and table by the caller: which are in range,
+// by example.
 #![tactic(auto)]
 
 #[cfg(test)]

@@ -1,5 +1,6 @@
-// Messages of any numbers, put into the log by the caller: which are delivered, and which are refused
-// as out of range. There are two servers on each side, and two objects; operation 1, a write, is begun.
+// Messages of any numbers, put into the log by the caller: which are delivered, and which are
+// refused as out of range. There are two servers on each side, and two objects; operation 1, a
+// write, is begun.
 use field_bench::messages::{
     Grant, clock_answer, clock_question, counted, invalidation, invalidation_answer, list_of,
     naming, read_answer, read_ended, read_request, renewal_request, write_answer, write_ended,
@@ -237,7 +238,8 @@ fn other_messages_do_not_matter(rt: HostRuntime) -> Result<(), Fail> {
 
 const HIGHEST: Version = Version(4_294_901_761);
 
-// The highest clock that can be answered gives the write the clock 65,535, and leaves none for another.
+// The highest clock that can be answered gives the write the clock 65,535, and leaves none for
+// another.
 #[test]
 fn the_last_clock(rt: HostRuntime) -> Result<(), Fail> {
     let mut bench = by_majority(rt.alloc(), 1, 1)?;

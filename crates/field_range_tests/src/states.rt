@@ -1,6 +1,6 @@
-// States of operations, put into the table by the caller: which are refused as out of range, and that a
-// field goes on from those that are not. There are two servers on each side, and two objects; the table
-// has one operation, a write.
+// States of operations, put into the table by the caller: which are refused as out of range, and
+// that a field goes on from those that are not. There are two servers on each side, and two
+// objects; the table has one operation, a write.
 use field_bench::messages::{
     Grant, clock_answer, invalidation, invalidation_answer, naming, read_answer, read_ended,
     renewal_request, write_answer, write_ended, write_request,
@@ -137,7 +137,8 @@ fn servers_go_on_without_it(rt: HostRuntime) -> Result<(), Fail> {
 
 // ---- what is gone on from
 
-// The field that gave operation 1 out as an asking write takes the state that it finds in its place.
+// The field that gave operation 1 out as an asking write takes the state that it finds in its
+// place.
 #[test]
 fn a_sending_write_in_the_place(rt: HostRuntime) -> Result<(), Fail> {
     let mut bench = with_a_write(rt.alloc())?;

@@ -21,7 +21,7 @@ use Rattle.guarantee.proofs.ServerSteps.{changed, input_same, later_rises, outpu
 use Rattle.guarantee.proofs.Sets.{has-set_of}
 use Rattle.guarantee.proofs.CallCases.{InputStep, OutputStep, Reacts, NotRefused, Advanced, advances, call_ways}
 use Rattle.guarantee.proofs.Traces.{in_has}
-use Rattle.guarantee.proofs.Words.{never, set_from, In, All, Any, any_old, any_new, any_each}
+use Rattle.guarantee.proofs.Words.{never, set_from, All, Any, any_old, any_new, any_each}
 
 -- ---- refusals
 

@@ -1,7 +1,8 @@
--- The rules do something: four stories, each from a field that is not yet open, and what their calls say.
--- The guarantee speaks of each of them, so what it asks of a story can be met.
--- Calls are numbered from 0, messages and operations from 1. Beside a story's calls, "call 7" is one of these calls, and what asks,
--- brings or answers by a number, as in "6 asks for a copy", is the message with that number in the story's log.
+-- The rules do something: four stories, each from a field that is not yet open, and what their
+-- calls say. The guarantee speaks of each of them, so what it asks of a story can be met. Calls
+-- are numbered from 0, messages and operations from 1. Beside a story's calls, "call 7" is one of
+-- these calls, and what asks, brings or answers by a number, as in "6 asks for a copy", is the
+-- message with that number in the story's log.
 use Rattle.std.specs.Prelude.{◌≡◌, ℕ, zero, suc, ◌+◌, ◌*◌, false, List, [], ◌∷◌, ◌++◌, map, length, replicate}
 use Rattle.quorum.specs.Systems.{Lawful, majority, read_one_write_all}
 use Rattle.rules.specs.declared.kept.Ledger.{Ledger}
@@ -70,8 +71,8 @@ leased stamp epoch micros ps = record {
 abbrev pub deliveries : List ℕ → List Call
 deliveries = map to_deliver
 
--- with one input server, the four messages of a write, if the log has them from that number on: the clock question, its
--- answer, the write request, its answer
+-- with one input server, the four messages of a write, if the log has them from that number on:
+-- the clock question, its answer, the write request, its answer
 abbrev pub in_turn : ℕ → List Call
 in_turn from = deliveries (from ∷ (from + 1) ∷ (from + 2) ∷ (from + 3) ∷ [])
 
@@ -91,7 +92,8 @@ pub record Covered (S : Story) : Type 0 where
 
 -- ---- 1. a write, and then a read
 
--- One input server, one output server, one object, a lease of 1,000 microseconds, a drift of 10 thousandths.
+-- One input server, one output server, one object, a lease of 1,000 microseconds, a drift of 10
+-- thousandths.
 unfoldable pub write_then_read : Story
 write_then_read = record {
   inputs = majority 1;
@@ -102,8 +104,8 @@ write_then_read = record {
       -- call 1: a write, which makes the messages 1 to 4 of the log
       ∷ to_write 0 7
       ∷ in_turn 1
-      -- call 6: a read. Its request is message 5. The output server has nothing: 6 asks for copy and lease, 7 brings them.
-      -- The request is delivered again, and 8 answers it
+      -- call 6: a read. Its request is message 5. The output server has nothing: 6 asks for copy
+      -- and lease, 7 brings them. The request is delivered again, and 8 answers it
       ++ to_read 0
       ∷ deliveries (5 ∷ 6 ∷ 7 ∷ 5 ∷ 8 ∷ []);
 }
@@ -127,12 +129,15 @@ under_lease = record {
   start = unopened 28 4;
   calls =
       write_then_read.calls
-      -- call 12: a write. Its request, 11, is answered by 13, which names nobody; 12 is an invalidation
+      -- call 12: a write. Its request, 11, is answered by 13, which names nobody; 12 is an
+      -- invalidation
       ++ to_write 0 8
       ∷ deliveries (9 ∷ 10 ∷ 11 ∷ 13 ∷ [])
-      -- call 17: the invalidation, and 14, which answers it. The request is delivered again, and answered by 15
+      -- call 17: the invalidation, and 14, which answers it. The request is delivered again, and
+      -- answered by 15
       ++ deliveries (12 ∷ 14 ∷ 11 ∷ 15 ∷ [])
-      -- call 21: a read, whose request is message 16. The lease is live and the copy is old: 17 asks for a copy, 18 brings it, 19 answers
+      -- call 21: a read, whose request is message 16. The lease is live and the copy is old: 17
+      -- asks for a copy, 18 brings it, 19 answers
       ++ to_read 0
       ∷ deliveries (16 ∷ 17 ∷ 18 ∷ 16 ∷ 19 ∷ []);
 }
@@ -167,7 +172,8 @@ lease_over = record {
   start = unopened 24 3;
   calls =
       to_open 1 1000 10 (zeros 2)
-      -- call 1: a read, whose request is message 1. 2 asks for copy and lease, 3 brings them, 4 answers
+      -- call 1: a read, whose request is message 1. 2 asks for copy and lease, 3 brings them, 4
+      -- answers
       ∷ to_read 0
       ∷ deliveries (1 ∷ 2 ∷ 3 ∷ 1 ∷ 4 ∷ [])
       -- call 7: the lease runs out
@@ -175,8 +181,8 @@ lease_over = record {
       -- call 8: a write, which makes the messages 5 to 8 of the log
       ∷ to_write 0 7
       ∷ in_turn 5
-      -- call 13: a read, whose request is message 9. The lease is over: 10 asks for one, 11 brings it with the invalidation that waited,
-      -- 12 acknowledges that
+      -- call 13: a read, whose request is message 9. The lease is over: 10 asks for one, 11
+      -- brings it with the invalidation that waited, 12 acknowledges that
       ++ to_read 0
       ∷ deliveries (9 ∷ 10 ∷ 11 ∷ 12 ∷ [])
       -- call 18: the request again. Now the copy is old: 13 asks for one, 14 brings it, 15 answers
@@ -190,7 +196,8 @@ pub record LeaseOver : Type 0 where
   pub time_passes : said_at lease_over 7 ≡ accepted
   pub write_begins : BeginsWrite lease_over 8 2 0 7
   pub write_gets : Gets lease_over 10 2 131074
-  -- the write request finds the lease over: it names the output server, and leaves an invalidation waiting for it
+  -- the write request finds the lease over: it names the output server, and leaves an
+  -- invalidation waiting for it
   pub none_waits : chain (input_before lease_over 11) 0 ≡ []
   pub one_waits : chain (input_before lease_over 12) 0 ≡ pair 0 131074 ∷ []
   pub names_it : message_before lease_over 12 8 ≡ WriteAnswer 0 2 (record { 0 = 1 })
@@ -208,7 +215,8 @@ pub record LeaseOver : Type 0 where
 
 -- ---- 4. the records run out, and an epoch rises
 
--- One input server, eight output servers, nine objects: 72 invalidations would wait, and there are 64 records.
+-- One input server, eight output servers, nine objects: 72 invalidations would wait, and there
+-- are 64 records.
 unfoldable pub records_out : Story
 records_out = record {
   inputs = majority 1;
@@ -216,19 +224,19 @@ records_out = record {
   start = unopened 149 19;
   calls =
       to_open 9 1000 10 (zeros 9)
-      -- call 1: a read of object 0, whose requests are the messages 1 to 8 of the log. For output server 0, 9 asks for copy
-      -- and lease, 10 brings them, 11 answers
+      -- call 1: a read of object 0, whose requests are the messages 1 to 8 of the log. For output
+      -- server 0, 9 asks for copy and lease, 10 brings them, 11 answers
       ∷ to_read 0
       ∷ deliveries (1 ∷ 9 ∷ 10 ∷ 1 ∷ 11 ∷ [])
-      -- calls 7, 10, .. 28: a read of each other object, with eight requests. The first goes to output server 0, which asks
-      -- for a copy; it is given one
+      -- calls 7, 10, .. 28: a read of each other object, with eight requests. The first goes to
+      -- output server 0, which asks for a copy; it is given one
       ++ each 8 (λ i. to_read (1 + i) ∷ deliveries ((12 + 10 * i) ∷ (20 + 10 * i) ∷ []))
       -- call 31: the lease runs out
       ++ to_advance (replicate 9 1000)
       -- calls 32, 37, .. 72: a write of each object, with four messages
       ∷ each 9 (λ o. to_write o 7 ∷ in_turn (92 + 4 * o))
-      -- call 77: a read of object 0, whose requests are the messages 128 to 135 of the log. For output server 0, 136 asks for
-      -- a lease, 137 brings it
+      -- call 77: a read of object 0, whose requests are the messages 128 to 135 of the log. For
+      -- output server 0, 136 asks for a lease, 137 brings it
       ++ to_read 0
       ∷ deliveries (128 ∷ 136 ∷ 137 ∷ [])
       -- call 81: the request again. 138 asks for a copy, 139 brings it, 140 answers
@@ -262,7 +270,8 @@ pub record RecordsOut : Type 0 where
   -- and each later output server gets a record of those that were freed
   pub some_freed : waiting (input_before records_out 76) ≡ 0 ∷ replicate 7 9
   pub next_epochs : epochs (input_before records_out 76) ≡ 2 ∷ replicate 7 1
-  -- what was freed is not lost: the next lease brings no list but the new epoch, so that the old copy is asked for anew
+  -- what was freed is not lost: the next lease brings no list but the new epoch, so that the old
+  -- copy is asked for anew
   pub read_begins : BeginsRead records_out 77 19 0
   pub brought : message_before records_out 80 137
       ≡ RenewalAnswer 0 0 (leased 1000 2 1000 [])

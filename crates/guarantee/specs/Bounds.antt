@@ -1,4 +1,5 @@
--- The ranges of an open field's numbers, and of its lists' lengths. Every call keeps them, whatever log and table it is lent.
+-- The ranges of an open field's numbers, and of its lists' lengths. Every call keeps them,
+-- whatever log and table it is lent.
 use Rattle.std.specs.Prelude.{◌≡◌, ℕ, ◌+◌, ◌<◌, ◌≤◌, true, false, List, [], ◌∷◌, length, slice_index_or}
 use Rattle.quorum.specs.Systems.{System, Lawful}
 use Rattle.rules.specs.declared.pairs.Pair.{Pair}
@@ -42,7 +43,8 @@ pub record ChainBounds (chains : List (List Pair)) : Type 0 where
 
 -- an input server of a field with that lease length, in which so many messages were made
 pub record InputBounds (lease made : ℕ) (I : Input) : Type 0 where
-  -- a place for each object, for each output server, and for each object in what an output server acknowledged
+  -- a place for each object, for each output server, and for each object in what an output server
+  -- acknowledged
   pub objects : length I.objects ≡ 16
   pub ledgers : length I.ledgers ≡ 8
   pub last_acknowledged : (j : ℕ) → j < 8 → length (ledger I j).last_acknowledged ≡ 16
@@ -56,7 +58,8 @@ pub record InputBounds (lease made : ℕ) (I : Input) : Type 0 where
   pub chains : ChainBounds I.waiting
 
 pub record OutputBounds (O : Output) : Type 0 where
-  -- a place for each object, for each input server, and for each object among the copies from an input server
+  -- a place for each object, for each input server, and for each object among the copies from an
+  -- input server
   pub newest : length O.newest ≡ 16
   pub links : length O.links ≡ 8
   pub copies : (i : ℕ) → i < 8 → length (link O i).copies ≡ 16
@@ -83,8 +86,9 @@ pub record Bounded (s : State) : Type 0 where
 
 -- ---- what is kept
 
--- A field that is within its bounds if it is open is so after any call too. Nothing is asked of the log and the table, nor
--- of the calls before. Of a field that is not open nothing is asked at all: opening puts it within its bounds.
+-- A field that is within its bounds if it is open is so after any call too. Nothing is asked of
+-- the log and the table, nor of the calls before. Of a field that is not open nothing is asked at
+-- all: opening puts it within its bounds.
 abbrev pub BoundsKept : Type 0
 BoundsKept =
     (inputs outputs : System) → Lawful inputs → Lawful outputs → (c : Call) (s : State)

@@ -1,5 +1,6 @@
--- When operations end: with the delivery that completes their quorums, no earlier, no later, and once. What an operation
--- has gathered is read off the calls of a story, what they say, and the log; never off the table.
+-- When operations end: with the delivery that completes their quorums, no earlier, no later, and
+-- once. What an operation has gathered is read off the calls of a story, what they say, and the
+-- log; never off the table.
 use Rattle.std.specs.Prelude.{◌≡◌, ℕ, zero, suc, ◌<◌, Bool, true, false, if◌then◌else◌, ◌↔◌, List, length, replicate, Some, None, Option, ◌==◌, bit_or, slice_set}
 use Rattle.quorum.specs.declared.member_set.MemberSet.{MemberSet}
 use Rattle.quorum.specs.Sets.{joined, set_of}
@@ -23,7 +24,8 @@ abbrev pub message_of : Call → State → Option Message
 message_of (to_deliver number) s = Some (message_at s number)
 message_of call s = None
 
--- the message that call number t delivers: there is one if the call is a delivery and is not refused
+-- the message that call number t delivers: there is one if the call is a delivery and is not
+-- refused
 abbrev pub delivered_at : Story → ℕ → Option Message
 delivered_at S t = if is_refusal (said_at S t) then None else message_of (call_at S t) (before S t)
 
@@ -32,31 +34,34 @@ abbrev pub also_hears : {G : Type 0} → (Message → G → G) → Option Messag
 also_hears hears None gathered = gathered
 also_hears hears (Some m) gathered = hears m gathered
 
--- what is gathered from the messages that the calls before number t delivered, one after the other; `first` is there from
--- the start
+-- what is gathered from the messages that the calls before number t delivered, one after the
+-- other; `first` is there from the start
 abbrev pub gathered_before : {G : Type 0} → G → (Message → G → G) → Story → ℕ → G
 gathered_before first hears S zero = first
 gathered_before first hears S (suc t) = also_hears hears (delivered_at S t) (gathered_before first hears S t)
 
 -- ---- the quorums of a write
 
--- an input server names output servers to the write p by a write answer; what it names later joins what it named before
+-- an input server names output servers to the write p by a write answer; what it names later
+-- joins what it named before
 abbrev pub hears_names : ℕ → Message → List MemberSet → List MemberSet
 hears_names p (WriteAnswer i q s) named =
     if q == p then slice_set named i (record { 0 = bit_or (named_by named i) s.0 }) else named
 hears_names p m named = named
 
--- for each of eight input servers, the output servers that it named to the write p by what was delivered before call number t
+-- for each of eight input servers, the output servers that it named to the write p by what was
+-- delivered before call number t
 abbrev pub named_before : Story → ℕ → ℕ → List MemberSet
 named_before S p t = gathered_before (replicate 8 (record { 0 = 0 })) (hears_names p) S t
 
--- they are enough: the output servers that count are a write set, where one counts if the input servers that named it are
--- a write set
+-- they are enough: the output servers that count are a write set, where one counts if the input
+-- servers that named it are a write set
 abbrev pub written_before : Story → ℕ → ℕ → Bool
 written_before S p t =
     S.outputs.writes (set_of S.outputs.count (counts S.inputs S.inputs.count (named_before S p t)))
 
--- call number t completes the quorums of the write p: they were not complete before it, and they are with it
+-- call number t completes the quorums of the write p: they were not complete before it, and they
+-- are with it
 pub record WriteCompletes (S : Story) (t p : ℕ) : Type 0 where
   pub made : t < length S.calls
   pub before : written_before S p t ≡ false
@@ -85,8 +90,8 @@ pub record ReadCompletes (S : Story) (t p : ℕ) : Type 0 where
 
 -- ---- the law
 
--- Of operation number p. It may be any number: where no call begins a write p, no write answer to p is ever delivered, so
--- nothing completes and nothing ends; and likewise for a read.
+-- Of operation number p. It may be any number: where no call begins a write p, no write answer to
+-- p is ever delivered, so nothing completes and nothing ends; and likewise for a read.
 pub record EndsWhenComplete (S : Story) (p : ℕ) : Type 0 where
   -- Call number t ends the write p if and only if it completes the quorums of p.
   pub write : (t : ℕ) → ((v : ℕ) × (x : ℕ) × EndsWrite S t p v x) ↔ WriteCompletes S t p

@@ -1,5 +1,5 @@
--- Laws of gathering: what answers leave of an operation, however often and in whatever order they come. A range is asked
--- for only where the law needs it.
+-- Laws of gathering: what answers leave of an operation, however often and in whatever order they
+-- come. A range is asked for only where the law needs it.
 use Rattle.std.specs.Prelude.{◌≡◌, ℕ, ◌+◌, ◌<◌, ◌≤◌, true, List, [], ◌∷◌, ◌≢◌}
 use Rattle.quorum.specs.declared.member_set.MemberSet.{MemberSet}
 use Rattle.quorum.specs.Systems.{System, Lawful}
@@ -22,8 +22,8 @@ PairTwiceIsOnce = (j : ℕ) (v : Version) (x : ℕ) (r : Reading) → hears_pair
 
 -- ---- two answers, either one first
 
--- Which of two answers comes first does not matter. (So no order of many matters: each is reached from each other by
--- changes of neighbours.)
+-- Which of two answers comes first does not matter. (So no order of many matters: each is reached
+-- from each other by changes of neighbours.)
 abbrev pub ClocksInAnyOrder : Type 0
 ClocksInAnyOrder = (i c k d : ℕ) (a : Asking) → hears_clock i c (hears_clock k d a) ≡ hears_clock k d (hears_clock i c a)
 
@@ -31,8 +31,9 @@ abbrev pub NamedInAnyOrder : Type 0
 NamedInAnyOrder =
     (i k : ℕ) (s t : MemberSet) (w : Sending) → hears_named i s (hears_named k t w) ≡ hears_named k t (hears_named i s w)
 
--- Of a read: who answered, and the highest version. Between equal versions the pair that came first stays, so the order can
--- matter to the value, but between two different versions it does not.
+-- Of a read: who answered, and the highest version. Between equal versions the pair that came
+-- first stays, so the order can matter to the value, but between two different versions it does
+-- not.
 pub record SameButTheValue (q r : Reading) : Type 0 where
   pub operation : q.operation ≡ r.operation
   pub object : q.object ≡ r.object
@@ -50,7 +51,8 @@ UnequalPairsInAnyOrder =
 
 -- ---- a complete quorum
 
--- More answers never undo a complete quorum, in any two systems with the laws: not the clocks of a read set,
+-- More answers never undo a complete quorum, in any two systems with the laws: not the clocks of
+-- a read set,
 abbrev pub ClockStaysKnown : Type 0
 ClockStaysKnown =
     (inputs : System) → Lawful inputs → (i c : ℕ) (a : Asking) → i < inputs.count

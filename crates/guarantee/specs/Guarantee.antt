@@ -3,7 +3,8 @@ use Rattle.std.specs.Prelude.{◌≡◌, ℕ, ◌<◌, ◌≤◌, false, ◌⊎�
 use Rattle.quorum.specs.Systems.{Lawful}
 use Rattle.guarantee.specs.Story.{Story, BeginsWrite, BeginsRead, BeginsAsWrite, BeginsAsRead, Gets, EndsWrite, EndsRead}
 
--- A read that ends has a version at least that of every write of its object that ended before the read began.
+-- A read that ends has a version at least that of every write of its object that ended before the
+-- read began.
 abbrev pub NeverBehind : Story → Type 0
 NeverBehind S =
     (o p q t u e x y z v w b : ℕ)
@@ -11,8 +12,8 @@ NeverBehind S =
     → BeginsRead S u q o → t < u → EndsRead S e q v z
     → w ≤ v
 
--- The version and the value of a read that ends are those of one write of its object that began before the read ended,
--- or they are the starting pair.
+-- The version and the value of a read that ends are those of one write of its object that began
+-- before the read ended, or they are the starting pair.
 pub record Written (S : Story) (e o v z : ℕ) : Type 0 where
   pub write : ℕ
   pub begins : ℕ
@@ -27,7 +28,8 @@ NeverInvented S =
     (o q u e v z : ℕ) → BeginsRead S u q o → EndsRead S e q v z
     → ((v ≡ 65536) × (z ≡ 0)) ⊎ Written S e o v z
 
--- A write that begins after another write of its object ended gets a higher version, if it gets one.
+-- A write that begins after another write of its object ended gets a higher version, if it gets
+-- one.
 abbrev pub AlwaysRising : Story → Type 0
 AlwaysRising S =
     (o p q t u g x y z v w b : ℕ)
@@ -35,7 +37,8 @@ AlwaysRising S =
     → BeginsWrite S u q o z → t < u → Gets S g q v
     → w < v
 
--- A write gets one version, once. Its end comes later, gives that version and the value that was handed in.
+-- A write gets one version, once. Its end comes later, gives that version and the value that was
+-- handed in.
 pub record EndOf (S : Story) (t p w y : ℕ) : Type 0 where
   pub gets : ℕ
   pub earlier : gets < t
@@ -47,8 +50,9 @@ OneVersion S =
     ((p g h v w : ℕ) → Gets S g p v → Gets S h p w → (g ≡ h) × (v ≡ w))
     × ((p t w y : ℕ) → EndsWrite S t p w y → EndOf S t p w y)
 
--- What ends has begun: with one call before it, as what it ends as, and with no other call. One call before number t is of
--- this kind, no other call of the story is, and none is of the other kind.
+-- What ends has begun: with one call before it, as what it ends as, and with no other call. One
+-- call before number t is of this kind, no other call of the story is, and none is of the other
+-- kind.
 pub record BegunOnce (t : ℕ) (Kind Other : ℕ → Type 0) : Type 0 where
   pub begins : ℕ
   pub earlier : begins < t

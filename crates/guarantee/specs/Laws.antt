@@ -48,8 +48,8 @@ LoggedStaysLogged = AfterCalls MessagesStay
 
 -- ---- what never falls
 
--- at an input server: its clock, the highest clock that it took, each version held, what each output server acknowledged,
--- and each epoch
+-- at an input server: its clock, the highest clock that it took, each version held, what each
+-- output server acknowledged, and each epoch
 pub record InputRises (I J : Input) : Type 0 where
   pub clock : I.clock.0 ≤ J.clock.0
   pub highest : I.lc ≤ J.lc
@@ -57,8 +57,8 @@ pub record InputRises (I J : Input) : Type 0 where
   pub last_acknowledged : (j o : ℕ) → last_acknowledged I j o ≤ last_acknowledged J j o
   pub epoch : (j : ℕ) → (ledger I j).epoch.0 ≤ (ledger J j).epoch.0
 
--- at an output server: its clock, each newest version, and from each input server what is known, the epochs of the copies,
--- the lease's epoch and the lease's end
+-- at an output server: its clock, each newest version, and from each input server what is known,
+-- the epochs of the copies, the lease's epoch and the lease's end
 pub record OutputRises (O Q : Output) : Type 0 where
   pub clock : O.clock.0 ≤ Q.clock.0
   pub newest : (o : ℕ) → (newest_of O o).version.0 ≤ (newest_of Q o).version.0
@@ -80,8 +80,9 @@ LeasesStand = AfterCalls (λ s t. Bounded s → (i j : ℕ) → (ledger (input_a
 
 -- ---- who is told of a write, and who is named
 
--- Of the messages that input server i logs for the write p of o, every invalidation is of o, carries the version held, and
--- goes to an output server that is not shut out. So what is shut out is sent none.
+-- Of the messages that input server i logs for the write p of o, every invalidation is of o,
+-- carries the version held, and goes to an output server that is not shut out. So what is shut
+-- out is sent none.
 abbrev pub OnlyOthersAreTold : Type 0
 OnlyOthersAreTold =
     (I : Input) (i p m o : ℕ) (k j q : ℕ) (v : Version) → Has (answers_write i p m o I) (Invalidation k j q v)
@@ -109,14 +110,16 @@ NamedIsShutOut = (I : Input) (m o j : ℕ) → j < m → has (set_of m (is_shut_
 
 -- ---- what concerns one output server alone
 
--- everything that the input server keeps of the output servers other than b is as it was: their chains, and in their
--- ledgers what they acknowledged, their epochs and their lease ends. So are all objects
+-- everything that the input server keeps of the output servers other than b is as it was: their
+-- chains, and in their ledgers what they acknowledged, their epochs and their lease ends. So are
+-- all objects
 pub record LeavesOthers (b : ℕ) (I J : Input) : Type 0 where
   pub objects : J.objects ≡ I.objects
   pub chain : (j : ℕ) → (b ≢ j) → chain J j ≡ chain I j
   pub ledger : (j : ℕ) → (b ≢ j) → ledger J j ≡ ledger I j
 
--- Queueing a pair for one output server leaves the others alone, and so does acknowledging from one.
+-- Queueing a pair for one output server leaves the others alone, and so does acknowledging from
+-- one.
 abbrev pub QueueingLeavesOthers : Type 0
 QueueingLeavesOthers = (o b : ℕ) (I : Input) → LeavesOthers b I (queues_for o b I)
 

@@ -9,13 +9,15 @@ use Rattle.rules.specs.Renewals.{asks_volume}
 use Rattle.rules.specs.State.{State, input_at, output_at}
 use Rattle.guarantee.specs.Story.{Story, before, Has}
 
--- Every lease that input server i ever granted output server j is over on the clock of j, delivered or not.
+-- Every lease that input server i ever granted output server j is over on the clock of j,
+-- delivered or not.
 abbrev pub AllOver : State → ℕ → ℕ → Type 0
 AllOver s i j =
     (y : Renewed) → asks_volume y.renewal.parts ≡ true → 1 ≤ y.length → Has (take s.made s.log) (RenewalAnswer i j y)
     → (lease_end y.renewal.stamp.0 y.length s.frame.drift).0 ≤ (output_at s j).clock.0
 
--- Whenever, in any story, the clock of an input server has reached its lease end for an output server, it is so.
+-- Whenever, in any story, the clock of an input server has reached its lease end for an output
+-- server, it is so.
 abbrev pub LeasesRunOut : Type 0
 LeasesRunOut =
     (S : Story) → Lawful S.inputs → Lawful S.outputs → S.start.frame.is_open ≡ false

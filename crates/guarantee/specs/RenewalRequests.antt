@@ -22,8 +22,9 @@ pub record GivesObject (I : Input) (r : Renewal) (y : Renewed) : Type 0 where
   pub no_version : asks_object r.parts ≡ false → y.version ≡ none
   pub no_value : asks_object r.parts ≡ false → y.value ≡ 0
 
--- the volume part: where it is asked for, the first 8 of what waits for j, in order, or all if there
--- are fewer; the lease length if that is all, and otherwise 0; where it is not asked for, 0 and nothing
+-- the volume part: where it is asked for, the first 8 of what waits for j, in order, or all if
+-- there are fewer; the lease length if that is all, and otherwise 0; where it is not asked for, 0
+-- and nothing
 pub record GivesVolume (lease j : ℕ) (I : Input) (r : Renewal) (y : Renewed) : Type 0 where
   pub list : asks_volume r.parts ≡ true → list_of y.list ≡ take shown (chain I j)
   pub granted : asks_volume r.parts ≡ true → length (chain I j) ≤ shown → y.length ≡ lease
@@ -47,9 +48,9 @@ RenewalIsAnswered =
 
 -- ---- what the server keeps
 
--- What no renewal alters: the clock, the highest clock taken, every version and value held, all that
--- waits, all that was acknowledged and every epoch; nor does one alter the last read of another
--- object, or the lease end of another output server.
+-- What no renewal alters: the clock, the highest clock taken, every version and value held, all
+-- that waits, all that was acknowledged and every epoch; nor does one alter the last read of
+-- another object, or the lease end of another output server.
 pub record StaysInRenewal (j : ℕ) (r : Renewal) (I J : Input) : Type 0 where
   pub clock : J.clock ≡ I.clock
   pub lc : J.lc ≡ I.lc
@@ -78,8 +79,9 @@ abbrev pub LastReadIsGiven : Type 0
 LastReadIsGiven =
     (I : Input) (lease j : ℕ) (r : Renewal) → ReadOfObject r I (after_renewal lease j r I)
 
--- The lease end of j, where there is a place for it, is one lease length after the clock if a lease is
--- granted: if the volume part is asked for and all that waits is shown. If not, it is as it was.
+-- The lease end of j, where there is a place for it, is one lease length after the clock if a
+-- lease is granted: if the volume part is asked for and all that waits is shown. If not, it is as
+-- it was.
 pub record LeaseOfAsker (lease j : ℕ) (r : Renewal) (I J : Input) : Type 0 where
   pub granted : asks_volume r.parts ≡ true → length (chain I j) ≤ shown
       → j < length I.ledgers → (ledger J j).lease_end.0 ≡ I.clock.0 + lease

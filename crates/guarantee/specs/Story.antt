@@ -1,5 +1,6 @@
--- A story: some calls, made one after the other from a field that is not yet open, whatever its log and table hold.
--- What begins, gets a version and ends in it is read off the answers of the calls and the messages that they log.
+-- A story: some calls, made one after the other from a field that is not yet open, whatever its
+-- log and table hold. What begins, gets a version and ends in it is read off the answers of the
+-- calls and the messages that they log.
 use Rattle.std.specs.Prelude.{◌≡◌, ℕ, zero, suc, ◌<◌, List, length, slice_index_or, slice_range}
 use Rattle.quorum.specs.Systems.{System}
 use Rattle.rules.specs.declared.message.Message.{Message}
@@ -31,7 +32,8 @@ outcome_of inputs outputs (to_write o x) s = beginning_write inputs outputs o x 
 outcome_of inputs outputs (to_read o) s = beginning_read inputs outputs o s
 outcome_of inputs outputs (to_deliver number) s = delivering inputs outputs number s
 
--- the same two systems are handed to every call, and nothing but the calls writes field, log and table
+-- the same two systems are handed to every call, and nothing but the calls writes field, log and
+-- table
 pub record Story : Type 0 where
   pub inputs : System
   pub outputs : System
@@ -84,8 +86,9 @@ BeginsAsWrite S t p = (o : ℕ) × (x : ℕ) × BeginsWrite S t p o x
 abbrev pub BeginsAsRead : Story → ℕ → ℕ → Type 0
 BeginsAsRead S t p = (o : ℕ) × BeginsRead S t p o
 
--- With call number t, a delivery, the write p gets its version v: it logs a write request of p with that version. That p
--- is a write is what a call before it says; an operation that sends write requests is no write by that alone.
+-- With call number t, a delivery, the write p gets its version v: it logs a write request of p
+-- with that version. That p is a write is what a call before it says; an operation that sends
+-- write requests is no write by that alone.
 pub record Gets (S : Story) (t p v : ℕ) : Type 0 where
   pub made : t < length S.calls
   pub number : ℕ

@@ -33,11 +33,12 @@ pub data Line : Type 0 where
   lease_is_live : ℕ → ℕ → ℕ → ℕ → Bool → Line
   -- stamp, length, drift: it is live at no time from the stamp on
   lease_is_never_live : ℕ → ℕ → ℕ → Line
-  -- systems of input and output servers, what a write heard, in that order: the set of the output servers that count then,
-  -- and whether the write has ended
+  -- systems of input and output servers, what a write heard, in that order: the set of the output
+  -- servers that count then, and whether the write has ended
   write_has_ended : System → System → List Named → ℕ → Bool → Line
-  -- of an input server at 400, where that many invalidations wait for output server 0, whose lease ends at 1,000 and which
-  -- asks to renew both parts: how many pairs and what length the answer has, and where the lease ends then
+  -- of an input server at 400, where that many invalidations wait for output server 0, whose
+  -- lease ends at 1,000 and which asks to renew both parts: how many pairs and what length the
+  -- answer has, and where the lease ends then
   renewal_is_answered : ℕ → ℕ → ℕ → ℕ → Line
 
 -- ---- advances
@@ -48,7 +49,8 @@ opens drift = opening (majority 1) (read_one_write_all 1) 1 1000 drift (zeros 2)
 
 -- ---- leases
 
--- an output server whose clock shows that time, and which took one renewal answer of the volume with that stamp and length
+-- an output server whose clock shows that time, and which took one renewal answer of the volume
+-- with that stamp and length
 abbrev pub renewed : ℕ → ℕ → ℕ → ℕ → Output
 renewed stamp micros drift time =
     after_answer drift 0 (lease_of stamp 1 micros []) (first_output (record { 0 = time }))
@@ -66,8 +68,8 @@ hears_each (names i s ∷ rest) w = hears_each rest (hears_named i (record { 0 =
 
 -- ---- renewals
 
--- an input server at clock 0 that, of one object after the other, gave output server 0 a copy and a lease and then took a
--- write, with the version of clock 2 and operation o + 1 for object o
+-- an input server at clock 0 that, of one object after the other, gave output server 0 a copy and
+-- a lease and then took a write, with the version of clock 2 and operation o + 1 for object o
 abbrev pub wrote : ℕ → Input
 wrote zero = first_input (record { 0 = 0 })
 wrote (suc o) = after_write 1 o (version_of 2 (o + 1)) 7 (after_renewal 1000 0 (record { parts = Both; object = o; stamp = record { 0 = 0 } }) (wrote o))
@@ -80,7 +82,8 @@ waits count = later_input 400 (wrote count)
 abbrev pub first_pairs : ℕ → List Pair
 first_pairs count = each count (λ o. pair o (version_of 2 (o + 1)).0 ∷ [])
 
--- and an answer to output server 0, stamped 500, of object 0, with that length and so many of the pairs
+-- and an answer to output server 0, stamped 500, of object 0, with that length and so many of the
+-- pairs
 abbrev pub answer_with : ℕ → ℕ → Message
 answer_with micros count = RenewalAnswer 0 0 (record {
   renewal = asked_for Both 500;

@@ -1,6 +1,6 @@
-// Stories of calls over the rules, what is guaranteed of every one of them, and the proofs. There is
-// no code here that runs: each function carries a theorem in its contract, so that the check asks
-// for its proof.
+// Stories of calls over the rules, what is guaranteed of every one of them, and the proofs. There
+// is no code here that runs: each function carries a theorem in its contract, so that the check
+// asks for its proof.
 #![tactic(auto)]
 
 mod alive;

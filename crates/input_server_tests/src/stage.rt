@@ -78,8 +78,8 @@ impl Stage {
         Ok(log.made())
     }
 
-    // The same where 4 messages of 12 are made, and 8 free: the number by which it is refused, if it
-    // is.
+    // The same where 4 messages of 12 are made, and 8 free: the number by which it is refused, if
+    // it is.
     pub(crate) fn write_refused(
         &mut self,
         object: u8,

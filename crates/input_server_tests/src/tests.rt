@@ -127,8 +127,8 @@ fn nine_waiting() -> Result<(), Fail> {
     stage.expect_shut_out(0, Version::new(4, 1))
 }
 
-// With eight waiting a lease is granted: from 500 on it ends at 1,500. The output server is not shut
-// out at 1,499, and is at 1,500.
+// With eight waiting a lease is granted: from 500 on it ends at 1,500. The output server is not
+// shut out at 1,499, and is at 1,500.
 #[test]
 fn eight_waiting() -> Result<(), Fail> {
     let mut stage = given_nine(1)?;
@@ -149,7 +149,8 @@ fn shut_out_under_a_live_lease() -> Result<(), Fail> {
     // object 4 was given to nobody
     let mut stage = given_two()?;
     stage.expect_shut_out(4, Version::new(2, 1))?;
-    // object 3 was given with its starting version, and 2·65,536 + 1 is acknowledged, which is above
+    // object 3 was given with its starting version, and 2·65,536 + 1 is acknowledged, which is
+    // above
     stage.expect_told(3, Version::new(2, 1), Version::new(2, 1))?;
     stage.acknowledge(0, Pairs::one(pair(3, Version::new(2, 1))))?;
     stage.expect_shut_out(3, Version::new(3, 2))?;

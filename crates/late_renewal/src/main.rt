@@ -27,8 +27,8 @@ fn renewing(rt: &impl Print, stage: &mut Stage) -> Result<()> {
     stage.read(rt)
 }
 
-// A write is told to the output server, which answers no read until it has the new version. Once its
-// acknowledgement is there, the input server names it as shut out.
+// A write is told to the output server, which answers no read until it has the new version. Once
+// its acknowledgement is there, the input server names it as shut out.
 fn invalidated(rt: &impl Print, stage: &mut Stage) -> Result<()> {
     let version = Version::new(2, 1);
     stage.advance(180)?;

@@ -23,8 +23,9 @@ pub(crate) struct Stage {
     object: ObjectNumber,
     lease: LeaseLength,
     drift: Drift,
-    // what each step is lent as a `Log`, which ends with the step: the places, and how many are made; each
-    // lends it in a line of its own, since a method that did so would lend the servers with it
+    // what each step is lent as a `Log`, which ends with the step: the places, and how many are
+    // made; each lends it in a line of its own, since a method that did so would lend the servers
+    // with it
     log: [Message; 32],
     made: usize,
 }

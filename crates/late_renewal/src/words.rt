@@ -1,4 +1,5 @@
-// Messages in words of this story's own: what it prints is kept, and there is one server of each kind.
+// Messages in words of this story's own: what it prints is kept, and there is one server of each
+// kind.
 use quorum::MemberSet;
 use rules::{Message, Pairs, Parts, Renewed};
 use std::fmt;

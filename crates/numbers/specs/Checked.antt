@@ -1,4 +1,5 @@
--- What checking a number into a type of its own gives: the same number there, just where it is in range.
+-- What checking a number into a type of its own gives: the same number there, just where it is in
+-- range.
 use Rattle.std.specs.Prelude.{◌≡◌, ℕ, Bool, true, false, Ok, Err, Result, Some, None, Option}
 
 abbrev pub Checked : {A E : Type 0} → (A → ℕ) → Bool → ℕ → Result A E → Type 0

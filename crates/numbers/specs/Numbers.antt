@@ -77,7 +77,8 @@ longer t to = if nat_lt t.0 to.0 then to else t
 abbrev pub live : Time → Time → Bool
 live clock end = nat_lt clock.0 end.0
 
--- where a lease that lasts so many microseconds ends at the output server that asked for it at `stamp`
+-- where a lease that lasts so many microseconds ends at the output server that asked for it at
+-- `stamp`
 abbrev pub lease_end : ℕ → ℕ → ℕ → Time
 lease_end stamp micros drift = record { 0 = stamp + micros * (1000 - drift) / 1000 }
 

@@ -1,5 +1,5 @@
-// Hands a state one message after another. Nothing here says what it returns: the tests look at what
-// the code does, and not at what it promises.
+// Hands a state one message after another. Nothing here says what it returns: the tests look at
+// what the code does, and not at what it promises.
 use numbers::Version;
 use operation::{AskingWrite, Operation, Reaction};
 use quorum::{Majority, MemberSet, QuorumSystem, ReadOneWriteAll, Refusal, Systems};

@@ -1,5 +1,7 @@
 // An output server with a log lent to it, and plain numbers in place of checked ones.
-use numbers::{Drift, Epoch, InputNumber, Moment, ObjectNumber, OperationNumber, OutputNumber, Time, Version};
+use numbers::{
+    Drift, Epoch, InputNumber, Moment, ObjectNumber, OperationNumber, OutputNumber, Time, Version,
+};
 use output_server::OutputServer;
 use quorum::Majority;
 use rules::{InRange, Log, Message, Pair, Pairs, Parts, Renewal, Renewed};
@@ -106,8 +108,8 @@ impl Stage {
         self.expect_acknowledged(input, told(version))
     }
 
-    // The number by which an invalidation is refused where 4 messages of 12 are made, and 8 free, if
-    // it is.
+    // The number by which an invalidation is refused where 4 messages of 12 are made, and 8 free,
+    // if it is.
     pub(crate) fn invalidation_refused(
         &mut self,
         input: u8,

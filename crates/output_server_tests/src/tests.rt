@@ -5,8 +5,8 @@ use numbers::Version;
 use rules::{Pairs, Parts};
 use std::test::*;
 
-// Object and lease together, in the first epoch: asked for at 500 and granted for 1,000. With a drift
-// of 10 thousandths the lease ends at 500 + 990 = 1,490.
+// Object and lease together, in the first epoch: asked for at 500 and granted for 1,000. With a
+// drift of 10 thousandths the lease ends at 500 + 990 = 1,490.
 fn both(version: Version, value: u64) -> Answer {
     Answer {
         parts: Parts::Both,
@@ -59,9 +59,9 @@ fn lease_over() -> Result<(), Fail> {
     stage.expect_asked(0, Parts::Volume, 1_490)
 }
 
-// An answer that arrives at 5,000 to what was asked at 500 brings a sound copy and a lease that ended
-// at 1,490. Asked again at 5,000, the lease ends at 5,990. The old answer once more does not draw the
-// end back.
+// An answer that arrives at 5,000 to what was asked at 500 brings a sound copy and a lease that
+// ended at 1,490. Asked again at 5,000, the lease ends at 5,990. The old answer once more does
+// not draw the end back.
 #[test]
 fn late_renewal_answer() -> Result<(), Fail> {
     let first = Version::new(2, 1);
@@ -89,8 +89,8 @@ fn renewal_answer_below_known() -> Result<(), Fail> {
     stage.expect_read(Version::new(3, 3), 9)
 }
 
-// The list of an answer is heard before its copy: the copy below it is not accepted, the lease is, and
-// the same list is acknowledged.
+// The list of an answer is heard before its copy: the copy below it is not accepted, the lease
+// is, and the same list is acknowledged.
 #[test]
 fn list_before_copy() -> Result<(), Fail> {
     let list = told(Version::new(3, 3));
@@ -104,8 +104,8 @@ fn list_before_copy() -> Result<(), Fail> {
     stage.expect_asked(0, Parts::Object, 500)
 }
 
-// Both parts are asked for at first. The part that came is asked for no more, and with both the read
-// is answered.
+// Both parts are asked for at first. The part that came is asked for no more, and with both the
+// read is answered.
 #[test]
 fn parts_that_came() -> Result<(), Fail> {
     let first = Version::new(2, 1);
@@ -121,8 +121,8 @@ fn parts_that_came() -> Result<(), Fail> {
     other.expect_read(first, 7)
 }
 
-// The copy is of epoch 1 and the lease of epoch 2. The answer that told so granted no lease; the one
-// before it runs on.
+// The copy is of epoch 1 and the lease of epoch 2. The answer that told so granted no lease; the
+// one before it runs on.
 #[test]
 fn copy_of_an_earlier_epoch() -> Result<(), Fail> {
     let mut stage = renewed(Version::new(2, 1), 7)?;
@@ -136,9 +136,9 @@ fn copy_of_an_earlier_epoch() -> Result<(), Fail> {
     stage.expect_read(Version::new(2, 1), 7)
 }
 
-// Two input servers, both of which it takes. Input server 0 tells of the version that came from input
-// server 1: the newest version is as high as every known one, and only the copy from 0 is below what
-// 0 told of.
+// Two input servers, both of which it takes. Input server 0 tells of the version that came from
+// input server 1: the newest version is as high as every known one, and only the copy from 0 is
+// below what 0 told of.
 #[test]
 fn copy_below_known() -> Result<(), Fail> {
     let second = Version::new(3, 3);
@@ -150,8 +150,8 @@ fn copy_below_known() -> Result<(), Fail> {
     stage.expect_asked(0, Parts::Object, 500)
 }
 
-// Three input servers, two of which are a read set. The two are good, and the third tells of a version
-// above the newest: the read is not answered until that version is there.
+// Three input servers, two of which are a read set. The two are good, and the third tells of a
+// version above the newest: the read is not answered until that version is there.
 #[test]
 fn newest_below_known() -> Result<(), Fail> {
     let first = Version::new(2, 1);

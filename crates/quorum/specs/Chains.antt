@@ -1,4 +1,5 @@
--- What a chain of iterators over the numbers below n gives, as the definitions over these numbers have it.
+-- What a chain of iterators over the numbers below n gives, as the definitions over these numbers
+-- have it.
 use Rattle.std.specs.Prelude.{◌≡◌, ℕ, zero, suc, ◌+◌, ◌^◌, ◌<◌, ◌≤◌, Bool, true, false, if◌then◌else◌, ◌&&◌, List, [], ◌∷◌, ◌++◌, bit_or, filter, fold, refl}
 use Rattle.std.proofs.Common.{ap, ◌∙◌, arith, lt-ltb}
 use Rattle.std.specs.List.{list_all, range_with_len}

@@ -1,4 +1,5 @@
--- What making a system of n members gives: that system, or the refusal 10 of a count outside 1 to 64.
+-- What making a system of n members gives: that system, or the refusal 10 of a count outside 1 to
+-- 64.
 use Rattle.std.specs.Prelude.{◌≡◌, ℕ, Bool, true, false, ◌&&◌, Ok, Err, Result, nat_le}
 use Rattle.quorum.specs.declared.majority.Majority.{Majority}
 use Rattle.quorum.specs.declared.member_count.MemberCount.{MemberCount}

@@ -1,4 +1,5 @@
--- The number by which a refusal is known outside, and its text. Every promise about a refused call goes by the number.
+-- The number by which a refusal is known outside, and its text. Every promise about a refused
+-- call goes by the number.
 use Rattle.std.specs.Prelude.{ℕ, List, codes}
 use Rattle.quorum.specs.declared.refusal.Refusal.{Refusal}
 use Rattle.quorum.specs.declared.refusal.Refusal.TheVariants.{AlreadyOpen, TooManyMembers, ObjectCount, LeaseLength, DriftRange, StartClocks, Lengths, NotOpen, NotAsOpened, MemberCount, IncrementCount, PastLastTime, DriftBroken, NoSuchObject, TableFull, NoRoomToBegin, NoSuchMessage, NoRoomToDeliver, OutOfRange}

@@ -17,7 +17,8 @@ use Rattle.rules.specs.Said.{accepted, began, nothing_ended}
 use Rattle.rules.specs.State.{State, Outcome, outcome, refuse, no_input, no_output, input_at, output_at, post, with_input, with_output}
 use Rattle.rules.specs.Steps.{has_room}
 
--- a call refuses by the first number of its row whose condition holds, and does what it is for where none does
+-- a call refuses by the first number of its row whose condition holds, and does what it is for
+-- where none does
 abbrev pub unless : Option ℕ → State → Outcome → Outcome
 unless None s x = x
 unless (Some number) s x = refuse number s
@@ -50,7 +51,8 @@ opened n m k lease drift clocks s = record {
 abbrev pub clocks_fit : List Time → Bool
 clocks_fit ts = list_all (λ t. nat_le t.0 last_time) ts
 
--- what an opening refuses first, of systems with n and m members and of a log and a table of these lengths
+-- what an opening refuses first, of systems with n and m members and of a log and a table of
+-- these lengths
 abbrev pub opening_refusal : Bool → ℕ → ℕ → ℕ → ℕ → ℕ → List Time → ℕ → ℕ → Option ℕ
 opening_refusal is_open n m k lease drift clocks log_length table_length =
     if is_open then Some 1
@@ -177,8 +179,8 @@ in_range x s = numbers_fit s.frame.counts x && operation_fits (is_known s) (λ p
 abbrev pub quiet : State → Outcome
 quiet s = outcome nothing_ended s
 
--- what becomes of a field where operation p reacts so: its next state stands in the table, and what it
--- sends is logged
+-- what becomes of a field where operation p reacts so: its next state stands in the table, and
+-- what it sends is logged
 abbrev pub reacted : ℕ → Reaction → State → Outcome
 reacted p r s = outcome r.said (post r.sends (with_operation p r.next s))
 
@@ -208,7 +210,8 @@ receives inputs outputs (Invalidation i j o v) s =
 receives inputs outputs (InvalidationAnswer j i l) s =
     quiet (with_input i (acknowledges_all j (list_of l) (input_at s i)) s)
 
--- a message is handed over if all its numbers are in range, and those of the operation that it names
+-- a message is handed over if all its numbers are in range, and those of the operation that it
+-- names
 abbrev pub hands_over : System → System → Message → State → Outcome
 hands_over inputs outputs m s = if in_range m s then receives inputs outputs m s else refuse 33 s
 

@@ -2,15 +2,13 @@
 -- the types that carry ranges give them as their laws, and such a law may cite of our files those
 -- of specs/ alone.
 use Rattle.std.proofs.Common.{◌≡◌, ℕ, ◌≤◌, Bool, true, false, ◌&&◌, List, [], ◌∷◌, ap, ◌∙◌, arith}
-use Rattle.std.specs.List.{list_all}
 use Rattle.std.specs.Prelude.{if◌then◌else◌, nat_lt}
 use Rattle.std.proofs.lemmas.Bool.{and_parts, ltb-true, lt-ltb}
-use Rattle.numbers.specs.Numbers.{is_version}
 use Rattle.rules.specs.declared.pairs.Pair.{Pair}
 use Rattle.rules.specs.declared.pairs.Pairs.{Pairs}
 use Rattle.rules.specs.declared.renewal.Renewal.{Renewal}
 use Rattle.rules.specs.declared.renewal.Renewed.{Renewed}
-use Rattle.rules.specs.Ranges.{pair_fits, pairs_fit, list_fits, renewal_fits, copy_fits, lease_fits, renewed_fits}
+use Rattle.rules.specs.Ranges.{pair_fits, pairs_fit, list_fits, renewal_fits, lease_fits, renewed_fits}
 use Rattle.rules.specs.Renewals.{asks_volume}
 
 both : {a b c d : Bool} → (a ≡ true → c ≡ true) → (b ≡ true → d ≡ true)

@@ -23,8 +23,9 @@ pub record Of (k n s : ℕ) : Type 0 where
 abbrev pub Left : ℕ → ℕ → ℕ → Type 0
 Left n lost s = Of (n - lost) n s
 
--- Whether what is left is in the family: whichever members are lost, for some losses and not for others, or for none.
--- The first n - lost members are a set that can be left, so no two of the three hold at once.
+-- Whether what is left is in the family: whichever members are lost, for some losses and not for
+-- others, or for none. The first n - lost members are a set that can be left, so no two of the
+-- three hold at once.
 abbrev pub FindsAfter : (ℕ → Bool) → ℕ → ℕ → Finds → Type 0
 FindsAfter in_family n lost Always = (s : ℕ) → Left n lost s → in_family s ≡ true
 FindsAfter in_family n lost Sometimes =
@@ -35,7 +36,8 @@ FindsAfter in_family n lost Never = (s : ℕ) → Left n lost s → in_family s 
 abbrev pub limit : ℕ
 limit = 8
 
--- A system of more members than that is refused with the number 2; of any other, P holds of the answer.
+-- A system of more members than that is refused with the number 2; of any other, P holds of the
+-- answer.
 abbrev pub Surveyed : System → {A : Type 0} → (A → Type 0) → Result A Refusal → Type 0
 Surveyed q P (Ok x) = (q.count ≤ limit) × P x
 Surveyed q P (Err e) = (limit < q.count) × (number_of e ≡ 2)

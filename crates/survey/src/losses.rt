@@ -17,7 +17,8 @@ pub enum Family {
 }
 
 impl Family {
-    /// Whether the set is in this family of the system. One with a place beyond the members never is.
+    /// Whether the set is in this family of the system. One with a place beyond the members never
+    /// is.
     pub fn has<Q: QuorumSystem>(self, system: &Q, set: MemberSet) -> bool
         ensures { result ≡ sets_of self (Q.meaning system.now) set.0 }
     {
@@ -68,8 +69,8 @@ fn first_set<F: Fn(MemberSet) -> bool>(size: u8, count: u8, passes: F) -> Option
 }
 
 /// Whether what is left after that many losses is a set of the family. To lose more members than
-/// there are is to lose them all, so any number of losses will do. Refuses 2 for a system of more than
-/// 8 members, whose sets are too many to go over.
+/// there are is to lose them all, so any number of losses will do. Refuses 2 for a system of more
+/// than 8 members, whose sets are too many to go over.
 pub fn finds_after<Q: QuorumSystem>(system: &Q, family: Family, lost: u8) -> Result<Finds, Refusal>
     ensures { let q = Q.meaning system.now in
         Surveyed q (FindsAfter (sets_of family q) q.count lost) result }
@@ -86,8 +87,8 @@ pub fn finds_after<Q: QuorumSystem>(system: &Q, family: Family, lost: u8) -> Res
     Ok(finds)
 }
 
-/// The smallest set of the family and, of those of its size, the lowest as a number. Refuses 2 for a
-/// system of more than 8 members, whose sets are too many to go over.
+/// The smallest set of the family and, of those of its size, the lowest as a number. Refuses 2
+/// for a system of more than 8 members, whose sets are too many to go over.
 pub fn smallest_set<Q: QuorumSystem>(system: &Q, family: Family) -> Result<MemberSet, Refusal>
     ensures { let q = Q.meaning system.now in
         Surveyed q (λ s. Smallest (sets_of family q) q.count s.0) result }

@@ -1,8 +1,9 @@
 // Messages that are delivered together.
 use rules::Message;
 
-// The messages with the numbers from the first to the last. Where there are none, the last is one below
-// the first. No range of the library, which is not Copy: a group is handed on more than once.
+// The messages with the numbers from the first to the last. Where there are none, the last is one
+// below the first. No range of the library, which is not Copy: a group is handed on more than
+// once.
 #[derive(Clone, Copy)]
 pub(crate) struct Group {
     pub(crate) first: u64,
@@ -16,8 +17,8 @@ impl Group {
     }
 }
 
-// Which messages of a group are delivered. Names, and no closures: a step of the story then reads as what
-// it delivers.
+// Which messages of a group are delivered. Names, and no closures: a step of the story then reads
+// as what it delivers.
 #[derive(Clone, Copy)]
 pub(crate) enum Which {
     All,

@@ -1,5 +1,5 @@
-// A tower drops off the backhaul while its lease runs out. A write that it was not told of ends without
-// it, its late renewal brings the news, and its reads are not behind.
+// A tower drops off the backhaul while its lease runs out. A write that it was not told of ends
+// without it, its late renewal brings the news, and its reads are not behind.
 #![tactic(auto)]
 
 mod group;
@@ -64,8 +64,8 @@ fn begin_write(rt: &impl Print, site: &mut Site, object: u8, value: u64) -> Resu
     Ok(requests.made)
 }
 
-// The requests of a write reach every input server, and the answers reach the write. What is sent to
-// towers is left.
+// The requests of a write reach every input server, and the answers reach the write. What is sent
+// to towers is left.
 fn send(rt: &impl Print, site: &mut Site, requests: Group) -> Result<Delivery> {
     let told = site.deliver(rt, requests, Which::All)?;
     let answers = site.deliver(rt, told.made, Which::Answers)?;
@@ -118,8 +118,8 @@ fn last_moment(rt: &impl Print, site: &mut Site, requests: Group) -> Result<()> 
     Ok(())
 }
 
-// The tower finds its lease to be over, and asks for another one, which nobody hears. The input servers
-// find it to be over too, and the write ends without the tower, as the next one does.
+// The tower finds its lease to be over, and asks for another one, which nobody hears. The input
+// servers find it to be over too, and the write ends without the tower, as the next one does.
 fn lease_over(rt: &impl Print, site: &mut Site, requests: Group) -> Result<(Waiting, Missed)> {
     println!(rt)?;
     site.advance(rt, TOWER, 100, 99)?;

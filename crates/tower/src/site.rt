@@ -18,8 +18,8 @@ pub(crate) const OBJECTS: u8 = 16;
 // How long a lease lasts.
 const MINUTE: u64 = 60_000_000;
 
-// Both programs that run a field have such a type, each over its own systems: it shows all that a caller
-// keeps.
+// Both programs that run a field have such a type, each over its own systems: it shows all that a
+// caller keeps.
 #[derive(Drop)]
 pub(crate) struct Site {
     field: Field,
@@ -126,7 +126,8 @@ impl Site {
     // ended.
     pub(crate) fn deliver(&mut self, rt: &impl Print, group: Group, which: Which) -> Result<Step> {
         let before = self.field.messages_made();
-        // counted by hand: an iterator that looks for the messages to deliver would keep the log lent
+        // counted by hand: an iterator that looks for the messages to deliver would keep the log
+        // lent
         let mut count: u64 = 0;
         let mut ended = Delivery::NothingEnded;
         for number in group.first..=group.last {

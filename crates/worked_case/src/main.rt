@@ -1,5 +1,6 @@
-// The smallest field, from its opening to the end of a read: one input server, one output server, one
-// object. A line for each call, and the program stops where an answer is not the one that is expected.
+// The smallest field, from its opening to the end of a read: one input server, one output server,
+// one object. A line for each call, and the program stops where an answer is not the one that is
+// expected.
 #![tactic(auto)]
 
 mod stage;

@@ -11,8 +11,8 @@ use wording::{Told, ToldEnd};
 // The one object.
 const OBJECT: u64 = 0;
 
-// Both programs that run a field have such a type, each over its own systems: it shows all that a caller
-// keeps.
+// Both programs that run a field have such a type, each over its own systems: it shows all that a
+// caller keeps.
 #[derive(Drop)]
 pub(crate) struct Stage {
     field: Field,

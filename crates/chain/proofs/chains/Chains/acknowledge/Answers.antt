@@ -12,7 +12,7 @@ returns-then-gt c =
 
 pub invariant_of-self : goal.invariant_of-self
 invariant_of-self c = record {
-  sound =
+  well_linked =
       rw (c.link.ensures.rows, c.link.ensures.tops)
       (unlinked c.args.self.now c.args.output.number c.args.output.inside _ _ c.find-place.ensures (omega arith) c.args.version (search rules)).0;
 }

@@ -8,7 +8,7 @@ bounds-self-spare c = omega (arith, free_within c.args.self.now c.args.output.nu
 pub invariant_of-self : goal.invariant_of-self
 invariant_of-self c =
     let r = c.requires in
-    record { sound = rw (c.link.ensures.rows, c.link.ensures.tops) (appended c.args.self.now c.args.output.number c.args.output.inside c.args.pair _ r.found r.behind r.spare).0 }
+    record { well_linked = rw (c.link.ensures.rows, c.link.ensures.tops) (appended c.args.self.now c.args.output.number c.args.output.inside c.args.pair _ r.found r.behind r.spare).0 }
 
 pub returns : goal.returns
 returns c =

@@ -9,6 +9,6 @@ pub returns : goal.returns
 returns c =
     let shown = line c.waiting.result.records.now c.waiting.result.here in
     let counted : c.count.result ≡ length shown =
-        count_from_yields_List _ _ c.count.ensures.ran (YieldsList-from_first (λ x. x) (λ s. line s.records.now s.here) _ refl) in
+    count_from_yields_List _ _ c.count.ensures.ran (YieldsList-from_first (λ x. x) (λ s. line s.records.now s.here) _ refl) in
     let waits : length (waiting_for c.args.self.now c.args.output.number) ≡ length shown = ap length c.waiting.ensures.waits ∙ simp length-map in
     omega arith

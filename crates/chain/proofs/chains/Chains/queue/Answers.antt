@@ -4,7 +4,7 @@ use Rattle.chain.proofs.Meanings.{named, renewed_queued}
 use Rattle.chain.proofs.chains.Chains.queue.Goals as goal
 
 pub invariant_of-self : goal.invariant_of-self
-invariant_of-self c = record { sound = (renewed_queued c.args.self.now c.args.output.number c.args.output.inside c.args.pair _ c.find-place.ensures (omega arith)).0 }
+invariant_of-self c = record { well_linked = (renewed_queued c.args.self.now c.args.output.number c.args.output.inside c.args.pair _ c.find-place.ensures (omega arith)).0 }
 
 pub returns-then-place-ne-END : goal.returns-then-place-ne-END
 returns-then-place-ne-END c =

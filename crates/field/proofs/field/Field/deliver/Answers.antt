@@ -6,7 +6,7 @@ use Rattle.field.specs.declared.open_field.OpenField.{OpenField}
 use Rattle.field.specs.Views.{field_of}
 use Rattle.field.proofs.Closed.{delivery_closed}
 use Rattle.field.proofs.Continued.{guaranteed}
-use Rattle.field.proofs.Sounds.{sound_after}
+use Rattle.field.proofs.Invariant.{in_bounds_after}
 use Rattle.field.proofs.field.Field.deliver.Goals as goal
 
 pub returns-in_err-inside-clause-guaranteed : goal.returns-in_err-inside-clause-guaranteed
@@ -26,9 +26,9 @@ invariant_of-self-2 g c =
     let opened : c.args.self.now.inside ≡ Some c.in_ok-inside.inside.now = search rules in
     let does = ap (λ (f : Option OpenField). delivering i o c.args.number (field_of f c.args.log.now c.args.table.now)) opened ∙ c.deliver.ensures.does in
     record {
-      sound =
-          sound_after i o (g.met.I.QuorumSystem.lawful c.args.systems.now.inputs) (g.met.O.QuorumSystem.lawful c.args.systems.now.outputs) (to_deliver c.args.number)
-          c.args.self.now.inside (Some c.deliver.new.self) c.args.log.now c.deliver.new.log c.args.table.now c.deliver.new.table (delivery_says c.deliver.result) c.args.self.now.sound does;
+      in_bounds =
+          in_bounds_after i o (g.met.I.QuorumSystem.lawful c.args.systems.now.inputs) (g.met.O.QuorumSystem.lawful c.args.systems.now.outputs) (to_deliver c.args.number)
+          c.args.self.now.inside (Some c.deliver.new.self) c.args.log.now c.deliver.new.log c.args.table.now c.deliver.new.table (delivery_says c.deliver.result) c.args.self.now.in_bounds does;
     }
 
 pub returns-clause-guaranteed : goal.returns-clause-guaranteed

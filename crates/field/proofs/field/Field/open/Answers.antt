@@ -5,7 +5,7 @@ use Rattle.rules.specs.Said.{accepted, refused}
 use Rattle.field.specs.Views.{field_of}
 use Rattle.field.proofs.Continued.{guaranteed}
 use Rattle.field.proofs.Opens.{open_again, open_refuses, opens}
-use Rattle.field.proofs.Sounds.{sound_after}
+use Rattle.field.proofs.Invariant.{in_bounds_after}
 use Rattle.field.proofs.field.Field.open.Goals as goal
 
 pub returns-then-is_some-clause-does : goal.returns-then-is_some-clause-does
@@ -51,10 +51,10 @@ invariant_of-self g c =
     let i = g.I.QuorumSystem.meaning c.args.systems.now.inputs in
     let o = g.O.QuorumSystem.meaning c.args.systems.now.outputs in
     record {
-      sound =
-          sound_after i o (g.met.I.QuorumSystem.lawful c.args.systems.now.inputs) (g.met.O.QuorumSystem.lawful c.args.systems.now.outputs)
+      in_bounds =
+          in_bounds_after i o (g.met.I.QuorumSystem.lawful c.args.systems.now.inputs) (g.met.O.QuorumSystem.lawful c.args.systems.now.outputs)
           (to_open c.args.opening.objects c.args.opening.lease c.args.opening.drift c.args.clocks.now) c.args.self.now.inside (Some c.new-inside.result)
-          c.args.log.now c.args.log.now c.args.table.now c.args.table.now accepted c.args.self.now.sound
+          c.args.log.now c.args.log.now c.args.table.now c.args.table.now accepted c.args.self.now.in_bounds
           (opens i o c.args.opening.objects c.args.opening.lease c.args.opening.drift c.args.clocks.now c.args.self.now.inside c.args.log.now c.args.table.now
           c.new-inside.result c.count-n.result c.count-m.result (sym c.is_some.ensures ∙ c.if-is_some.false) c.count-n.ensures c.count-m.ensures
           c.in_ok-check_opening.ensures c.new-inside.ensures.frame c.new-inside.ensures.counters c.new-inside.ensures.inputs c.new-inside.ensures.outputs);

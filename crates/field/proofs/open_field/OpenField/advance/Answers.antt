@@ -1,7 +1,7 @@
 use Rattle.std.proofs.Common.{ℕ, take, drop, ap, ◌∙◌, arith, rules}
 use Rattle.std.proofs.lemmas.Result.{err_from_is_err_and}
 use Rattle.field.specs.Views.{state_of}
-use Rattle.field.proofs.Advances.{front_may, back_may, all_moved, moves_of, advance_refuses, advance_done}
+use Rattle.field.proofs.Advances.{front_may, all_moved, moves_of, advance_refuses, advance_done}
 use Rattle.field.proofs.open_field.OpenField.advance.Goals as goal
 
 pub returns-in_err-check_advance-clause-does : goal.returns-in_err-check_advance-clause-does

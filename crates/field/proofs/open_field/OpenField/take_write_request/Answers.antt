@@ -1,4 +1,4 @@
-use Rattle.std.proofs.Common.{◌≡◌, ◌<◌, length, sym, ◌∙◌, rules}
+use Rattle.std.proofs.Common.{◌<◌, length, sym, ◌∙◌, rules}
 use Rattle.input_server.specs.Steps.{write_step}
 use Rattle.input_server.specs.Views.{input_of}
 use Rattle.rules.specs.declared.message.Message.TheVariants.{WriteRequest}

@@ -14,7 +14,7 @@ use Rattle.guarantee.proofs.Bounds.{bounds_kept}
 use Rattle.operation.specs.declared.table.Operation.{Operation}
 use Rattle.field.specs.declared.open_field.OpenField.{OpenField}
 use Rattle.field.specs.Ready.{Ready}
-use Rattle.field.specs.Sound.{InBounds, Sound}
+use Rattle.field.specs.Invariant.{BoundsHold, InBounds}
 use Rattle.field.specs.Views.{inputs_of, state_of, field_of}
 use Rattle.field.proofs.Refusing.{not_refused}
 
@@ -34,7 +34,7 @@ numbers_prop f a b = λ k. record {
   epochs = Π_prop (λ i. Π_prop (λ j. Π_prop (λ _. Π_prop (λ _. le_prop)))) a.epochs b.epochs k;
 }
 
-pub numbers_of : (f : OpenField) → Sound (Some f) → Numbers f
+pub numbers_of : (f : OpenField) → InBounds (Some f) → Numbers f
 numbers_of f s = ∥∥₁_elim s (numbers_prop f) (λ d.
     record {
       log_most = d.log_length.1;
@@ -72,19 +72,19 @@ rebase f a b t u d = record {
 -- ---- every call keeps it
 
 -- the bounds of a field that is open, from its invariant and back
-bounded_of : (f : Option OpenField) (log : List Message) (table : List Operation) → InBounds f
+bounded_of : (f : Option OpenField) (log : List Message) (table : List Operation) → BoundsHold f
     → (field_of f log table).frame.is_open ≡ true → Bounded (field_of f log table)
 bounded_of None log table b e = not_refused (sym e)
 bounded_of (Some f) log table b e = rebase f [] log [] table b
 
 in_bounds : (f : Option OpenField) (log : List Message) (table : List Operation)
-    → ((field_of f log table).frame.is_open ≡ true → Bounded (field_of f log table)) → InBounds f
+    → ((field_of f log table).frame.is_open ≡ true → Bounded (field_of f log table)) → BoundsHold f
 in_bounds None log table h = tt
 in_bounds (Some f) log table h = rebase f log [] table [] (h refl)
 
-pub sound_after : (i o : System) → Lawful i → Lawful o → (c : Call) (f g : Option OpenField) (log log' : List Message) (table table' : List Operation) (r : Said)
-    → Sound f → outcome_of i o c (field_of f log table) ≡ outcome r (field_of g log' table') → Sound g
-sound_after i o li lo c f g log log' table table' r s e = ∥∥₁_map s (λ b.
+pub in_bounds_after : (i o : System) → Lawful i → Lawful o → (c : Call) (f g : Option OpenField) (log log' : List Message) (table table' : List Operation) (r : Said)
+    → InBounds f → outcome_of i o c (field_of f log table) ≡ outcome r (field_of g log' table') → InBounds g
+in_bounds_after i o li lo c f g log log' table table' r s e = ∥∥₁_map s (λ b.
     in_bounds g log' table'
     (subst (λ (x : Outcome). x.after.frame.is_open ≡ true → Bounded x.after) e
     (bounds_kept i o li lo c (field_of f log table) (bounded_of f log table b))))
