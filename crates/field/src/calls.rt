@@ -45,7 +45,8 @@ impl Field {
             (lent_to self.old log.now table.now)
             ≡ outcome (acceptance result) (lent_to self.new log.now table.now) }
         ensures same { OnErr result (self.new ≡ self.old) }
-        ensures guaranteed { let call = to_open opening.objects opening.lease opening.drift clocks.now in
+        ensures guaranteed { let x = opening in
+            let call = to_open x.objects x.lease x.drift clocks.now in
             Guaranteed (I.meaning systems.now.inputs) (O.meaning systems.now.outputs) call
             (lent_to self.old log.now table.now) (acceptance result)
             (lent_to self.new log.now table.now) }

@@ -14,7 +14,7 @@ use Rattle.guarantee.proofs.Fence.{pass}
 use Rattle.guarantee.proofs.CallEffects.{news_of}
 use Rattle.guarantee.proofs.Ends.{WriteEnds, ReadEnds, GetsVersion}
 use Rattle.guarantee.proofs.RangeFacts.{fits_clock}
-use Rattle.guarantee.proofs.InputMoves as Ins
+use Rattle.guarantee.proofs.WriteMoves as Writes
 use Rattle.guarantee.proofs.Keeps.{grows}
 use Rattle.guarantee.proofs.Kept.{slow, view, Begun, MsgOk, Named, OpOk, AskingOk, ReadingOk, Small, Kept, May, Grows, begun_grows}
 use Rattle.guarantee.proofs.Next.{named_next, heard_next}
@@ -58,7 +58,7 @@ news_plain X f P W cq rq (reads o) ca ra = each_all X P.counts.m (λ j. ReadRequ
 news_plain X f P W cq rq (hears (ClockQuestion p i)) ca ra = (ca p i refl, tt)
 news_plain X f P W cq rq (hears (ClockAnswer i p c)) ca ra = reaction_plain X f P (ClockAnswer i p c) (W.op p)
 news_plain X f P W cq rq (hears (WriteRequest p i o v x)) ca ra =
-    Ins.names_write X i p P.counts.m o (after_write P.counts.m o v x (W.inp i)) (λ j. f _ tt) (f _ tt)
+    Writes.names_write X i p P.counts.m o (after_write P.counts.m o v x (W.inp i)) (λ j. f _ tt) (f _ tt)
 news_plain X f P W cq rq (hears (WriteAnswer i p t)) ca ra = reaction_plain X f P (WriteAnswer i p t) (W.op p)
 news_plain X f P W cq rq (hears (ReadRequest p j o)) ca ra =
     Outs.read_all P.inputs j p P.counts.n o (W.out j) X (ra p j o refl) (λ i l. f _ tt)

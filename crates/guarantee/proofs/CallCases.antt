@@ -25,7 +25,9 @@ use Rattle.guarantee.specs.Laws.{InputRises, OutputRises}
 use Rattle.guarantee.specs.Story.{Call, to_open, to_advance, to_write, to_read, to_deliver, outcome_of}
 use Rattle.guarantee.proofs.Rows.{row, later_row}
 use Rattle.guarantee.proofs.RangeFacts.{within_range, RequestFits, RenewalFits, RenewedFits, fits_request, fits_renewal, fits_renewed, fits_invalidation, fits_ack}
-use Rattle.guarantee.proofs.InputMoves.{length_write, lease_end_write, lease_end_renewal, keeps_acknowledgement}
+use Rattle.guarantee.proofs.WriteMoves.{length_write, lease_end_write}
+use Rattle.guarantee.proofs.RenewalMoves.{lease_end_renewal}
+use Rattle.guarantee.proofs.AcknowledgementMoves.{keeps_acknowledgement}
 use Rattle.guarantee.proofs.OutputMoves.{ack_length}
 use Rattle.guarantee.proofs.Later.{length_later, later_from}
 use Rattle.guarantee.proofs.Reacting.{sends_nine, ended_stays, refuses_none}

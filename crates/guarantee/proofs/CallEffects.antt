@@ -17,7 +17,7 @@ use Rattle.rules.specs.Said.{Said, accepted, began, nothing_ended}
 use Rattle.rules.specs.State.{Frame, State, Outcome, input_at, output_at, post, with_input, with_output}
 use Rattle.guarantee.specs.Story.{Call, to_open, to_advance, to_write, to_read, to_deliver, part}
 use Rattle.guarantee.proofs.RangeFacts.{fits_request, fits_renewal, fits_renewed, fits_invalidation, fits_ack, within_range}
-use Rattle.guarantee.proofs.InputMoves as Ins
+use Rattle.guarantee.proofs.WriteMoves as Writes
 use Rattle.guarantee.proofs.Kept.{Small, May}
 use Rattle.guarantee.proofs.OutputMoves as Outs
 use Rattle.guarantee.proofs.Reacting.{sends_nine}
@@ -230,7 +230,7 @@ module _ (inputs outputs : System) (s : State) (f : Framed s) (room : s.made + 9
         reacts_accepted (ClockAnswer i p c) p (h, n) (and_parts (is_known s p) (has_next_clock (operation_at s p)) o).0 refl refl refl
     receives_accepted (WriteRequest p i o v x) h n k = input_accepted (hears (WriteRequest p i o v x)) i J new (h, n)
         (in8 i (fits_request s.frame.counts p i o v x n).receiver)
-        (let z = Ins.length_write i p s.frame.counts.m o J in let y = small.m_most in omega arith) refl refl refl
+        (let z = Writes.length_write i p s.frame.counts.m o J in let y = small.m_most in omega arith) refl refl refl
       where
         J : Input
         J = after_write s.frame.counts.m o v x (input_at s i)

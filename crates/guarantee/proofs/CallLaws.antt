@@ -16,7 +16,7 @@ use Rattle.rules.specs.State.{State, no_input, no_output, input_at, output_at, p
 use Rattle.guarantee.specs.Bounds.{Bounded}
 use Rattle.guarantee.specs.Laws.{AfterCalls, RefusalsAlterNothing, OperationsStay, EndedStaysEnded, MessagesStay, LoggedStaysLogged, InputRises, OutputRises, ServersRise, NothingFalls, LeasesStand, OnlyOthersAreTold, AllOthersAreTold, WriteIsAnswered, AnswerNamesShutOut, NamedIsShutOut, QueueingLeavesOthers, AcknowledgingLeavesOthers}
 use Rattle.guarantee.specs.Story.{Has}
-use Rattle.guarantee.proofs.InputMoves.{names_below_write}
+use Rattle.guarantee.proofs.WriteMoves.{names_below_write}
 use Rattle.guarantee.proofs.ServerSteps.{changed, input_same, later_rises, output_same, later_output_rises, queues_leaves, acks_leaves}
 use Rattle.guarantee.proofs.Sets.{has-set_of}
 use Rattle.guarantee.proofs.CallCases.{InputStep, OutputStep, Reacts, NotRefused, Advanced, advances, call_ways}

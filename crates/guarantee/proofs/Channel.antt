@@ -82,7 +82,7 @@ pub record Moves (L R : ℕ) (V W : Channel) : Type 0 where
   pub clock_up : V.clock_out ≤ W.clock_out
   pub drifts : R * W.clock_in + 1000 * V.clock_out ≤ R * V.clock_in + 1000 * W.clock_out
   pub given_set : (o : ℕ) → (W.last_read o ≡ V.last_read o) ⊎ (W.last_read o ≡ W.held o)
-  pub acked_from : (o : ℕ) → (W.last_acknowledged o ≡ V.last_acknowledged o) ⊎ V.Sent (answer o (W.last_acknowledged o))
+  pub acknowledged_from : (o : ℕ) → (W.last_acknowledged o ≡ V.last_acknowledged o) ⊎ V.Sent (answer o (W.last_acknowledged o))
   pub got_from : (o : ℕ) → (W.got o ≡ V.got o) ⊎ ((e : ℕ) × V.Sent (copy o (W.got o) e) × (W.got o ≤ W.known o))
   pub copy_from : (o : ℕ) → (W.copy_epoch o ≡ V.copy_epoch o) ⊎ ((v : ℕ) × V.Sent (copy o v (W.copy_epoch o)) × (v ≤ W.known o))
   pub lease_end_from : (W.end_of_lease ≡ V.end_of_lease) ⊎ Grant R V W.end_of_lease W.lease_epoch W.known

@@ -9,7 +9,7 @@ use Rattle.rules.specs.Operation.{Operation, asking, sending, reading, Asking, S
 use Rattle.rules.proofs.Reactions.{every_reaction}
 use Rattle.rules.specs.Said.{began, write_ended, read_ended}
 use Rattle.guarantee.proofs.CallEffects.{says_of, news_of}
-use Rattle.guarantee.proofs.InputMoves as Ins
+use Rattle.guarantee.proofs.WriteMoves as Writes
 use Rattle.guarantee.proofs.OutputMoves as Outs
 use Rattle.guarantee.proofs.Reacting.{sends_requests}
 use Rattle.guarantee.proofs.Words.{never, In, All, all_at, each_all, each_any}
@@ -143,7 +143,7 @@ module _ (P : Params) (W : PlainState) (p i o : ℕ) (v : Version) (x : ℕ) whe
   gets_version_lem (hears (ClockQuestion q k)) h = elim h [ inl f ↦ never (cc) | inr f ↦ absurd f ]
   gets_version_lem (hears (ClockAnswer k q c)) h = reaction_gets (ClockAnswer k q c) (W.op q) refl h
   gets_version_lem (hears (WriteRequest q k z u y)) h = absurd (nowhere _
-      (Ins.names_write NoRequest k q P.counts.m z (after_write P.counts.m z u y (W.inp k)) (λ _. tt) tt) h)
+      (Writes.names_write NoRequest k q P.counts.m z (after_write P.counts.m z u y (W.inp k)) (λ _. tt) tt) h)
   gets_version_lem (hears (WriteAnswer k q t)) h = reaction_gets (WriteAnswer k q t) (W.op q) refl h
   gets_version_lem (hears (ReadRequest q j z)) h = absurd (nowhere _ (Outs.read_all P.inputs j q P.counts.n z (W.out j) NoRequest (λ _. tt) (λ _ _. tt)) h)
   gets_version_lem (hears (ReadAnswer j q u y)) h = reaction_gets (ReadAnswer j q u y) (W.op q) refl h
@@ -180,7 +180,7 @@ module _ (P : Params) (W : PlainState) (p j o : ℕ) where
   asks_read (hears (ClockQuestion q k)) h = elim h [ inl f ↦ never (cc) | inr f ↦ absurd f ]
   asks_read (hears (ClockAnswer k q c)) h = absurd (reaction_asks_none (ClockAnswer k q c) (W.op q) h)
   asks_read (hears (WriteRequest q k z u y)) h = absurd (unasked _
-      (Ins.names_write NoAsking k q P.counts.m z (after_write P.counts.m z u y (W.inp k)) (λ _. tt) tt) h)
+      (Writes.names_write NoAsking k q P.counts.m z (after_write P.counts.m z u y (W.inp k)) (λ _. tt) tt) h)
   asks_read (hears (WriteAnswer k q t)) h = absurd (reaction_asks_none (WriteAnswer k q t) (W.op q) h)
   asks_read (hears (ReadRequest q c z)) h = absurd (unasked _ (Outs.read_all P.inputs c q P.counts.n z (W.out c) NoAsking (λ _. tt) (λ _ _. tt)) h)
   asks_read (hears (ReadAnswer c q u y)) h = absurd (reaction_asks_none (ReadAnswer c q u y) (W.op q) h)

@@ -116,7 +116,7 @@ stable L R V W o w i j m f = record { holds = up; why = elim f.why [ inl k ↦ i
 pub invariant : (L R : ℕ) (V W : Channel) → Inv L R V → Moves L R V W → Inv L R W
 invariant L R V W i m = record {
   given_held = given;
-  acked_known = λ o. elim (m.acked_from o) [
+  acked_known = λ o. elim (m.acknowledged_from o) [
     | inl e ↦ omega (arith, i.acked_known o, m.known_up o)
     | inr a ↦ omega (arith, i.answered o (W.last_acknowledged o) a, m.known_up o)
   ];

@@ -14,8 +14,10 @@ use Rattle.rules.specs.Output.{Output, newest_of, after_answer, after_invalidati
 use Rattle.guarantee.proofs.Channel.{Inv}
 use Rattle.guarantee.proofs.Fence.{invariant, stable}
 use Rattle.guarantee.proofs.ChannelOf.{InputShape, OutputShape}
-use Rattle.guarantee.proofs.InputMoves as Ins
-use Rattle.guarantee.proofs.InputMoves.{Clocked}
+use Rattle.guarantee.proofs.WriteMoves as Writes
+use Rattle.guarantee.proofs.RenewalMoves as Renewals
+use Rattle.guarantee.proofs.AcknowledgementMoves as Acks
+use Rattle.guarantee.proofs.WriteMoves.{Clocked}
 use Rattle.guarantee.proofs.Kept.{slow, view, Begun, Genuine, Wrote, Reads, MsgOk, Small, Kept, May, Grows}
 use Rattle.guarantee.proofs.Operations.{wrote_up, reads_up, moved_op}
 use Rattle.guarantee.proofs.OutputMoves as Outs
@@ -57,10 +59,10 @@ module _ (P : Params) (small : Small P) (W : PlainState) (k : Kept P W) where
   input_write : (p a o : ℕ) (v : Version) (x : ℕ) → In (WriteRequest p a o v x) W.sent
       → InputStep W (W.inp a) (after_write P.counts.m o v x (W.inp a))
   input_write p a o v x sent = record {
-    lc_up = (Ins.lc_write P.counts.m o v x (W.inp a)).0;
-    shape = Ins.shape_write P.counts.m o v x (W.inp a);
-    clocked = (Ins.lc_write P.counts.m o v x (W.inp a)).1;
-    held = λ q. elim (Ins.held_write P.counts.m o v x (W.inp a) q) [
+    lc_up = (Writes.lc_write P.counts.m o v x (W.inp a)).0;
+    shape = Writes.shape_write P.counts.m o v x (W.inp a);
+    clocked = (Writes.lc_write P.counts.m o v x (W.inp a)).1;
+    held = λ q. elim (Writes.held_write P.counts.m o v x (W.inp a) q) [
       | inl e ↦ inl e
       | inr e ↦ inr (inr (
         p,
@@ -82,17 +84,17 @@ module _ (P : Params) (small : Small P) (W : PlainState) (k : Kept P W) where
   input_renewal : (b : ℕ) (r : Renewal) (I : Input) → InputStep W I (after_renewal P.lease b r I)
   input_renewal b r I = record {
     lc_up = omega arith;
-    shape = Ins.shape_renewal P.lease b r I;
-    clocked = Ins.lc_renewal P.lease b r I;
-    held = λ q. inl (Ins.held_renewal P.lease b r I q);
+    shape = Renewals.shape_renewal P.lease b r I;
+    clocked = Renewals.lc_renewal P.lease b r I;
+    held = λ q. inl (Renewals.held_renewal P.lease b r I q);
   }
 
   input_ack : (b : ℕ) (l : Pairs) (I : Input) → InputStep W I (acknowledges_all b (list_of l) I)
-  input_ack b l I = let t = Ins.keeps_acknowledgement b (list_of l) I in record {
+  input_ack b l I = let t = Acks.keeps_acknowledgement b (list_of l) I in record {
     lc_up = omega (arith, t.lc);
-    shape = Ins.shape_acknowledgement b (list_of l) I;
-    clocked = Ins.lc_acknowledgement b (list_of l) I;
-    held = λ q. inl (ap (λ (h : Held). h.version) (Ins.held_acknowledgement b (list_of l) I q), ap (λ (h : Held). h.value) (Ins.held_acknowledgement b (list_of l) I q));
+    shape = Acks.shape_acknowledgement b (list_of l) I;
+    clocked = Acks.lc_acknowledgement b (list_of l) I;
+    held = λ q. inl (ap (λ (h : Held). h.version) (Acks.held_acknowledgement b (list_of l) I q), ap (λ (h : Held). h.value) (Acks.held_acknowledgement b (list_of l) I q));
   }
 
   pub inputs_step : (a : Act) → May P a W → (i : ℕ) → InputStep W (W.inp i) ((run P a W).inp i)

@@ -5,6 +5,9 @@ pub mod ChannelOf
 pub mod Rows
 pub mod Sets
 pub mod InputMoves
+pub mod WriteMoves
+pub mod RenewalMoves
+pub mod AcknowledgementMoves
 pub mod OutputMoves
 pub mod PlainState
 pub mod Reacting

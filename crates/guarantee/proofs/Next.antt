@@ -19,6 +19,7 @@ use Rattle.guarantee.proofs.Fence.{establish}
 use Rattle.guarantee.proofs.ChannelOf.{channel_of}
 use Rattle.guarantee.proofs.RangeFacts.{fits_clock, fits_request, fits_read, fits_pair, fits_renewal}
 use Rattle.guarantee.proofs.InputMoves as Ins
+use Rattle.guarantee.proofs.WriteMoves as Writes
 use Rattle.guarantee.proofs.OutputMoves as Outs
 use Rattle.guarantee.proofs.Keeps.{inputs_step, outputs_step, chans_next, grows}
 use Rattle.guarantee.proofs.Kept.{slow, Begun, Requested, AskedFor, Genuine, Wrote, Reads, Stands, Named, MsgOk, AskingOk, SendingOk, ReadingOk, OpOk, Small, Kept, May, Grows, requested_grows, genuine_grows, msg_grows, op_grows}
@@ -54,7 +55,7 @@ module _ (P : Params) (small : Small P) (lawful : Lawful P.inputs) (W : PlainSta
   writes_news : (a p o : ℕ) (v : Version) (x : ℕ) → (h : May P (hears (WriteRequest p a o v x)) W)
       → All (MsgOk P (next (hears (WriteRequest p a o v x))))
       (answers_write a p P.counts.m o (after_write P.counts.m o v x (W.inp a)))
-  writes_news a p o v x h = Ins.names_write (MsgOk P V) a p P.counts.m o J (λ _. tt) (
+  writes_news a p o v x h = Writes.names_write (MsgOk P V) a p P.counts.m o J (λ _. tt) (
     (msg_at (WriteRequest p a o v x) h.0).0,
     (o, v, x, (a, any_old (λ z. WriteRequest p a o v x ≡ z) W.sent new h.0), λ j b i<n j<m. stood j (of_set_of P.counts.m (is_shut_out J o) j b).1 i<n j<m),
   )
@@ -73,15 +74,15 @@ module _ (P : Params) (small : Small P) (lawful : Lawful P.inputs) (W : PlainSta
           → Fenced (slow P) (channel_of J (W.out j) a j (W.sent ++ new)) o v.0
       fenced j s i<n j<m inv = establish P.lease (slow P) (channel_of J (W.out j) a j (W.sent ++ new)) o v.0 inv
           (Ins.shut_shut J (W.out j) a j (W.sent ++ new) o s)
-          (Ins.queued_write P.lease (slow P) P.counts.m o v x (W.inp a) (W.out j) a j new W.sent (k.in_shape a i<n) small.m_most j<m
-          (k.chans a j i<n j<m) (Ins.quiet_write a j a p P.counts.m o J))
-          (Ins.holds_write P.counts.m o v x (W.inp a) (k.in_shape a i<n) (few o (fits_request P.counts p a o v x h.1).object))
+          (Writes.queued_write P.lease (slow P) P.counts.m o v x (W.inp a) (W.out j) a j new W.sent (k.in_shape a i<n) small.m_most j<m
+          (k.chans a j i<n j<m) (Writes.quiet_write a j a p P.counts.m o J))
+          (Writes.holds_write P.counts.m o v x (W.inp a) (k.in_shape a i<n) (few o (fits_request P.counts p a o v x h.1).object))
 
       stood : (j : ℕ) → is_shut_out J o j ≡ true → a < P.counts.n → j < P.counts.m → Stands P V a j o v.0
       stood j s i<n j<m = record {
         fence = subst (λ (X : Input). Inv P.lease (slow P) (channel_of X (W.out j) a j (W.sent ++ new)) → Fenced (slow P) (channel_of X (W.out j) a j (W.sent ++ new)) o v.0)
             (sym (at_same a J W.inp)) (fenced j s i<n j<m) (chans_next P small W k (hears (WriteRequest p a o v x)) h a j i<n j<m);
-        clock = subst (λ (X : Input). v.0 / 65536 ≤ X.lc) (sym (at_same a J W.inp)) ((Ins.lc_write P.counts.m o v x (W.inp a)).2 (k.lc a i<n));
+        clock = subst (λ (X : Input). v.0 / 65536 ≤ X.lc) (sym (at_same a J W.inp)) ((Writes.lc_write P.counts.m o v x (W.inp a)).2 (k.lc a i<n));
       }
 
   -- a write that knows the clock becomes a sending write, which its requests agree with

@@ -328,7 +328,7 @@ module _ (L R : ℕ) where
         clock_up = omega arith;
         drifts = omega arith;
         given_set = λ o. inl refl;
-        acked_from = λ o. inl refl;
+        acknowledged_from = λ o. inl refl;
         got_from = go;
         copy_from = co;
         lease_end_from = un;

@@ -15,6 +15,7 @@ use Rattle.rules.specs.Renewals.{asks_object, asks_volume}
 use Rattle.rules.specs.State.{no_input, input_at}
 use Rattle.guarantee.specs.RenewalRequests.{GivesObject, GivesVolume, RenewalIsAnswered, MostStaysInRenewal, LastReadIsGiven, LeaseEndIsGranted, RenewalsAlterOne}
 use Rattle.guarantee.proofs.InputMoves as Ins
+use Rattle.guarantee.proofs.RenewalMoves as Renewals
 use Rattle.guarantee.proofs.Words.{set_beyond}
 
 -- ---- the answer
@@ -50,16 +51,16 @@ pub most_stays_in_renewal : MostStaysInRenewal
 most_stays_in_renewal I lease j r = record {
   clock = refl;
   lc = refl;
-  version = λ o. (Ins.held_renewal lease j r I o).0;
-  value = λ o. (Ins.held_renewal lease j r I o).1;
+  version = λ o. (Renewals.held_renewal lease j r I o).0;
+  value = λ o. (Renewals.held_renewal lease j r I o).1;
   waiting = refl;
-  last_acknowledged = Ins.all_acknowledged_renewal lease j r I;
-  epoch = Ins.epoch_renewal lease j r I;
-  other_objects = λ o n. elim (Ins.object_from lease j r I o) [
+  last_acknowledged = Renewals.all_acknowledged_renewal lease j r I;
+  epoch = Renewals.epoch_renewal lease j r I;
+  other_objects = λ o n. elim (Renewals.object_from lease j r I o) [
     | inl e ↦ ap (λ (h : Held). h.last_read) e
     | inr e ↦ absurd (n e.0)
   ];
-  other_leases = λ b n. Ins.lease_end_other_renewal lease j r I b n;
+  other_leases = λ b n. Renewals.lease_end_other_renewal lease j r I b n;
 }
 
 pub last_read_is_given : LastReadIsGiven

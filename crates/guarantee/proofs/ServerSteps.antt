@@ -19,8 +19,10 @@ use Rattle.rules.specs.Renewals.{asks_volume}
 use Rattle.guarantee.specs.Bounds.{IsBetween, IsVersion, IsPair, ChainBounds, InputBounds, OutputBounds}
 use Rattle.guarantee.specs.Laws.{InputRises, OutputRises, LeavesOthers}
 use Rattle.guarantee.proofs.ChannelOf.{InputShape, OutputShape}
-use Rattle.guarantee.proofs.InputMoves as Ins
-use Rattle.guarantee.proofs.InputMoves.{pair_of, swept, took}
+use Rattle.guarantee.proofs.WriteMoves as Writes
+use Rattle.guarantee.proofs.RenewalMoves as Renewals
+use Rattle.guarantee.proofs.AcknowledgementMoves as Acks
+use Rattle.guarantee.proofs.WriteMoves.{pair_of, swept, took}
 use Rattle.guarantee.proofs.OutputMoves as Outs
 use Rattle.guarantee.proofs.Waiting.{queued_bounds, emptied_bounds, freed_bounds}
 use Rattle.guarantee.proofs.Words.{set_from}
@@ -93,7 +95,7 @@ lc_bound m o v x I y h = subst (λ (n : ℕ). IsBetween 1 65535 n) (sym (swept o
 -- each version held is as it was, or is the one written
 pub version_bound : (m o : ℕ) (v : Version) (x : ℕ) (I : Input) → IsVersion v → ((p : ℕ) → p < 16 → IsVersion (held I p).version)
     → (p : ℕ) → p < 16 → IsVersion (held (after_write m o v x I) p).version
-version_bound m o v x I y h p l = elim (Ins.held_write m o v x I p) [
+version_bound m o v x I y h p l = elim (Writes.held_write m o v x I p) [
   | inl e ↦ subst IsVersion (sym e.0) (h p l)
   | inr e ↦ subst IsVersion (sym e.1) y
 ]
@@ -101,8 +103,8 @@ version_bound m o v x I y h p l = elim (Ins.held_write m o v x I p) [
 pub write_bounds : (lease made count m o : ℕ) (v : Version) (x : ℕ) (I : Input) → InputBounds lease made I → o < 16 → IsVersion v → 1 ≤ count
     → InputBounds lease (made + count) (after_write m o v x I)
 write_bounds lease made count m o v x I b l y some =
-    let s = Ins.shape_write m o v x I (shape_in lease made I b) in
-    let c = ap (λ (t : Time). t.0) (Ins.clock_write m o v x I) in
+    let s = Writes.shape_write m o v x I (shape_in lease made I b) in
+    let c = ap (λ (t : Time). t.0) (Writes.clock_write m o v x I) in
     record {
       objects = s.objects;
       ledgers = s.ledgers;
@@ -110,9 +112,9 @@ write_bounds lease made count m o v x I b l y some =
       clock = let z = b.clock in omega arith;
       highest = lc_bound m o v x I y b.highest;
       version = version_bound m o v x I y b.version;
-      epoch = λ j few. let e = Ins.epoch_write m o v x I j in let d = b.epoch j few in
+      epoch = λ j few. let e = Writes.epoch_write m o v x I j in let d = b.epoch j few in
           (omega (arith, e.0, d.0), omega (arith, e.1, d.1));
-      lease_end = λ j. let u = ap (λ (t : Time). t.0) (Ins.lease_end_write m o v x I j) in omega (arith, b.lease_end j);
+      lease_end = λ j. let u = ap (λ (t : Time). t.0) (Writes.lease_end_write m o v x I j) in omega (arith, b.lease_end j);
       chains = sweeps_chains o m (takes_write o v x I)
           (subst ChainBounds (sym (took o v x I).waiting) b.chains)
           (l, subst (λ (w : Version). IsVersion w) (same_version) (version_bound m o v x I y b.version o l));
@@ -123,16 +125,16 @@ write_bounds lease made count m o v x I b l y some =
 
 pub renewal_bounds : (lease made b : ℕ) (r : Renewal) (I : Input) → InputBounds lease made I → InputBounds lease made (after_renewal lease b r I)
 renewal_bounds lease made b r I h =
-    let s = Ins.shape_renewal lease b r I (shape_in lease made I h) in
+    let s = Renewals.shape_renewal lease b r I (shape_in lease made I h) in
     record {
       objects = s.objects;
       ledgers = s.ledgers;
       last_acknowledged = s.last_acknowledged;
       clock = h.clock;
       highest = h.highest;
-      version = λ p l. subst IsVersion (sym (Ins.held_renewal lease b r I p).0) (h.version p l);
-      epoch = λ j l. subst (λ (e : Epoch). IsBetween 1 (made + 1) e.0) (sym (Ins.epoch_renewal lease b r I j)) (h.epoch j l);
-      lease_end = λ j. elim (Ins.lease_end_renewal lease b r I j) [
+      version = λ p l. subst IsVersion (sym (Renewals.held_renewal lease b r I p).0) (h.version p l);
+      epoch = λ j l. subst (λ (e : Epoch). IsBetween 1 (made + 1) e.0) (sym (Renewals.epoch_renewal lease b r I j)) (h.epoch j l);
+      lease_end = λ j. elim (Renewals.lease_end_renewal lease b r I j) [
         | inl e ↦ let u = ap (λ (t : Time). t.0) e in omega (arith, h.lease_end j)
         | inr e ↦ omega (arith, e)
       ];
@@ -147,8 +149,8 @@ acks_chains b (x ∷ xs) I h = acks_chains b xs (acknowledges b x I)
 
 pub ack_bounds : (lease made b : ℕ) (ps : List Pair) (I : Input) → InputBounds lease made I → InputBounds lease made (acknowledges_all b ps I)
 ack_bounds lease made b ps I h =
-    let s = Ins.shape_acknowledgement b ps I (shape_in lease made I h) in
-    let t = Ins.keeps_acknowledgement b ps I in
+    let s = Acks.shape_acknowledgement b ps I (shape_in lease made I h) in
+    let t = Acks.keeps_acknowledgement b ps I in
     let c = ap (λ (t : Time). t.0) t.clock in
     record {
       objects = s.objects;
@@ -156,7 +158,7 @@ ack_bounds lease made b ps I h =
       last_acknowledged = s.last_acknowledged;
       clock = let z = h.clock in omega arith;
       highest = subst (λ (n : ℕ). IsBetween 1 65535 n) (sym t.lc) h.highest;
-      version = λ p l. subst (λ (y : Held). IsVersion y.version) (sym (Ins.held_acknowledgement b ps I p)) (h.version p l);
+      version = λ p l. subst (λ (y : Held). IsVersion y.version) (sym (Acks.held_acknowledgement b ps I p)) (h.version p l);
       epoch = λ j l. subst (λ (e : Epoch). IsBetween 1 (made + 1) e.0) (sym (t.epoch j)) (h.epoch j l);
       lease_end = λ j. let u = ap (λ (t : Time). t.0) (t.lease_end j) in omega (arith, h.lease_end j);
       chains = acks_chains b ps I h.chains;
@@ -191,28 +193,28 @@ input_then I J K a b = record {
 
 pub write_rises : (m o : ℕ) (v : Version) (x : ℕ) (I : Input) → InputRises I (after_write m o v x I)
 write_rises m o v x I = record {
-  clock = let c = ap (λ (t : Time). t.0) (Ins.clock_write m o v x I) in omega arith;
-  highest = (Ins.lc_write m o v x I).0;
-  held = Ins.up_write m o v x I;
-  last_acknowledged = λ j p. omega (arith, Ins.acknowledged_write m o v x I j p);
-  epoch = λ j. (Ins.epoch_write m o v x I j).0;
+  clock = let c = ap (λ (t : Time). t.0) (Writes.clock_write m o v x I) in omega arith;
+  highest = (Writes.lc_write m o v x I).0;
+  held = Writes.up_write m o v x I;
+  last_acknowledged = λ j p. omega (arith, Writes.acknowledged_write m o v x I j p);
+  epoch = λ j. (Writes.epoch_write m o v x I j).0;
 }
 
 pub renewal_rises : (lease b : ℕ) (r : Renewal) (I : Input) → InputRises I (after_renewal lease b r I)
 renewal_rises lease b r I = record {
   clock = omega arith;
   highest = omega arith;
-  held = λ p. let e = ap (λ (w : Version). w.0) (Ins.held_renewal lease b r I p).0 in omega arith;
-  last_acknowledged = λ j p. omega (arith, Ins.acknowledged_renewal lease b r I j p);
-  epoch = λ j. let e = ap (λ (d : Epoch). d.0) (Ins.epoch_renewal lease b r I j) in omega arith;
+  held = λ p. let e = ap (λ (w : Version). w.0) (Renewals.held_renewal lease b r I p).0 in omega arith;
+  last_acknowledged = λ j p. omega (arith, Renewals.acknowledged_renewal lease b r I j p);
+  epoch = λ j. let e = ap (λ (d : Epoch). d.0) (Renewals.epoch_renewal lease b r I j) in omega arith;
 }
 
 pub ack_rises : (b : ℕ) (ps : List Pair) (I : Input) → InputRises I (acknowledges_all b ps I)
-ack_rises b ps I = let t = Ins.keeps_acknowledgement b ps I in record {
+ack_rises b ps I = let t = Acks.keeps_acknowledgement b ps I in record {
   clock = let c = ap (λ (x : Time). x.0) t.clock in omega arith;
   highest = omega (arith, t.lc);
-  held = λ p. let e = ap (λ (h : Held). h.version.0) (Ins.held_acknowledgement b ps I p) in omega arith;
-  last_acknowledged = t.acked_up;
+  held = λ p. let e = ap (λ (h : Held). h.version.0) (Acks.held_acknowledgement b ps I p) in omega arith;
+  last_acknowledged = t.acknowledged_up;
   epoch = λ j. let e = ap (λ (d : Epoch). d.0) (t.epoch j) in omega arith;
 }
 
@@ -241,7 +243,7 @@ queues_leaves o b I = cond_both (owed I o b)
     }
 
 pub acks_leaves : (b : ℕ) (ps : List Pair) (I : Input) → LeavesOthers b I (acknowledges_all b ps I)
-acks_leaves b ps I = let t = Ins.keeps_acknowledgement b ps I in record {
+acks_leaves b ps I = let t = Acks.keeps_acknowledgement b ps I in record {
   objects = t.objects;
   chain = λ j n. (t.other j n).1;
   ledger = λ j n. (t.other j n).0;

@@ -15,16 +15,19 @@ use Rattle.guarantee.proofs.PlainState.{Params, PlainState, Act, ticks, writes, 
 use Rattle.guarantee.proofs.RangeFacts.{RenewalFits, RenewedFits, InvalidationFits, AckFits, fits_request, fits_renewal, fits_renewed, fits_invalidation, fits_ack}
 use Rattle.guarantee.proofs.Kept.{Kept, Small, May, slow, view}
 use Rattle.guarantee.proofs.InputMoves as Ins
+use Rattle.guarantee.proofs.WriteMoves as Writes
+use Rattle.guarantee.proofs.RenewalMoves as Renewals
+use Rattle.guarantee.proofs.AcknowledgementMoves as Acks
 use Rattle.guarantee.proofs.OutputMoves as Outs
 use Rattle.guarantee.proofs.Reacting.{sends_requests}
 
 -- messages of operations say nothing between servers
 quiet_each : (i j n : ℕ) (f : ℕ → Message) → ((k : ℕ) (q : Part) → Says i j q (f k) → ⊥) → Quiet i j (each n (λ k. f k ∷ []))
-quiet_each i j n f h = Ins.quiet_all i j (each n (λ k. f k ∷ []))
+quiet_each i j n f h = Writes.quiet_all i j (each n (λ k. f k ∷ []))
     (each_all (λ y. (q : Part) → Says i j q y → ⊥) n (λ k. f k ∷ []) (λ k l. (h k, tt)))
 
 quiet_reaction : (P : Params) (i j : ℕ) (m : Message) (x : Operation) → Quiet i j (reaction P m x).sends
-quiet_reaction P i j m x = Ins.quiet_all i j (reaction P m x).sends
+quiet_reaction P i j m x = Writes.quiet_all i j (reaction P m x).sends
     (sends_requests P.inputs P.outputs (λ y. (q : Part) → Says i j q y → ⊥) (λ _ _ _ _ _ _ h. h) m x)
 
 module _ (P : Params) (small : Small P) (W : PlainState) (k : Kept P W) (i j : ℕ) (i<n : i < P.counts.n) (j<m : j < P.counts.m) where
@@ -67,9 +70,9 @@ module _ (P : Params) (small : Small P) (W : PlainState) (k : Kept P W) (i j : �
   moves_hears (ClockAnswer a p c) h = still _ (quiet_reaction P i j (ClockAnswer a p c) (W.op p))
   moves_hears (WriteRequest p a o v x) h = at_input_lem a J new
       (λ e. subst (λ (z : ℕ). Moves L R (channel_of (W.inp z) (W.out j) i j W.sent) (channel_of J (W.out j) i j (W.sent ++ new))) e
-      (Ins.moves_write L R P.counts.m o v x (W.inp a) (W.out j) i j new W.sent (k.in_shape a (fits_request P.counts p a o v x h.1).receiver)
-      small.m_most j<m (Ins.quiet_write i j a p P.counts.m o J)))
-      (λ _. Ins.quiet_write i j a p P.counts.m o J)
+      (Writes.moves_write L R P.counts.m o v x (W.inp a) (W.out j) i j new W.sent (k.in_shape a (fits_request P.counts p a o v x h.1).receiver)
+      small.m_most j<m (Writes.quiet_write i j a p P.counts.m o J)))
+      (λ _. Writes.quiet_write i j a p P.counts.m o J)
     where
       J : Input
       J = after_write P.counts.m o v x (W.inp a)
@@ -85,9 +88,9 @@ module _ (P : Params) (small : Small P) (W : PlainState) (k : Kept P W) (i j : �
   moves_hears (RenewalRequest b a r) h = at_input_lem a J new
       (λ e. elim (cases_eq b j) [
         | inl d ↦ subst₂ (λ (x y : ℕ). Moves L R (channel_of (W.inp x) (W.out y) x y W.sent) (channel_of J (W.out y) x y (W.sent ++ new))) e d
-            (Ins.moves_own_renewal L R r (W.inp a) (W.out b) a b W.sent shape (few r.object f.object) b<8 (k.held_pos a r.object f.input (few r.object f.object)) h.0)
+            (Renewals.moves_own_renewal L R r (W.inp a) (W.out b) a b W.sent shape (few r.object f.object) b<8 (k.held_pos a r.object f.input (few r.object f.object)) h.0)
         | inr n ↦ subst (λ (x : ℕ). Moves L R (channel_of (W.inp x) (W.out j) x j W.sent) (channel_of J (W.out j) x j (W.sent ++ new))) e
-            (Ins.moves_other_renewal L R b r (W.inp a) (W.out j) a j W.sent n)
+            (Renewals.moves_other_renewal L R b r (W.inp a) (W.out j) a j W.sent n)
       ])
       (λ n q x. elim x [ inl y ↦ n y.0 | inr y ↦ y ])
     where
@@ -146,9 +149,9 @@ module _ (P : Params) (small : Small P) (W : PlainState) (k : Kept P W) (i j : �
       (λ e. subst (λ (s : List Message). Moves L R (view W i j) (channel_of J (W.out j) i j s)) (sym (append-nil W.sent))
       (elim (cases_eq b j) [
         | inl d ↦ subst₂ (λ (x y : ℕ). Moves L R (channel_of (W.inp x) (W.out y) x y W.sent) (channel_of J (W.out y) x y W.sent)) e d
-            (Ins.moves_own_acknowledgement L R l (W.inp a) (W.out b) a b W.sent (k.in_shape a f.input) b<8 inside h.0)
+            (Acks.moves_own_acknowledgement L R l (W.inp a) (W.out b) a b W.sent (k.in_shape a f.input) b<8 inside h.0)
         | inr n ↦ subst (λ (x : ℕ). Moves L R (channel_of (W.inp x) (W.out j) x j W.sent) (channel_of J (W.out j) x j W.sent)) e
-            (Ins.moves_other_acknowledgement L R b (list_of l) (W.inp a) (W.out j) a j W.sent n)
+            (Acks.moves_other_acknowledgement L R b (list_of l) (W.inp a) (W.out j) a j W.sent n)
       ]))
       (λ n q x. x)
     where

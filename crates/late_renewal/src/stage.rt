@@ -164,7 +164,8 @@ impl Stage {
 
     // Whether the message at that place grants a lease.
     fn grants(&self, place: usize) -> bool {
-        matches!(self.log.get(place), Some(Message::RenewalAnswer { renewed, .. }) if renewed.length > 0)
+        let message = self.log.get(place);
+        matches!(message, Some(Message::RenewalAnswer { renewed, .. }) if renewed.length > 0)
     }
 
     // An invalidation reaches the output server.
