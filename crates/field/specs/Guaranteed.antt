@@ -8,8 +8,8 @@ use Rattle.guarantee.specs.Guarantee.{Guarantee}
 use Rattle.guarantee.specs.Story.{Call, Story, before, said_at}
 
 -- the story, and then this call
-abbrev pub then : Story → Call → Story
-then S c = record { inputs = S.inputs; outputs = S.outputs; start = S.start; calls = S.calls ++ c ∷ [] }
+abbrev pub with_call : Story → Call → Story
+with_call S c = record S { calls = S.calls ++ c ∷ [] }
 
 -- the story is one of these two systems, from a field that is not yet open, and leads to that state
 pub record LeadsTo (inputs outputs : System) (S : Story) (s : State) : Type 0 where
@@ -23,10 +23,11 @@ pub record LeadsTo (inputs outputs : System) (S : Story) (s : State) : Type 0 wh
 -- call said is what the story's last call says, the story is guaranteed, and its operations end
 -- exactly when their quorums are complete.
 pub record Continues (inputs outputs : System) (c : Call) (S : Story) (said : Said) (t : State) : Type 0 where
-  pub leads : LeadsTo inputs outputs (then S c) t
-  pub says : said_at (then S c) (length S.calls) ≡ said
-  pub guarantee : Guarantee (then S c)
-  pub ends : (p : ℕ) → EndsWhenComplete (then S c) p
+  pub leads : LeadsTo inputs outputs (with_call S c) t
+  pub says : said_at (with_call S c) (length S.calls) ≡ said
+  pub guarantee : Guarantee (with_call S c)
+  pub ends : (p : ℕ) → EndsWhenComplete (with_call S c) p
 
 abbrev pub Guaranteed : System → System → Call → State → Said → State → Type 0
-Guaranteed inputs outputs c s said t = (S : Story) → LeadsTo inputs outputs S s → Continues inputs outputs c S said t
+Guaranteed inputs outputs c s said t =
+    (S : Story) → LeadsTo inputs outputs S s → Continues inputs outputs c S said t

@@ -1,5 +1,5 @@
 -- The servers of one side of a field, be they input servers or output servers.
-use Rattle.std.specs.Prelude.{ℕ, zero, suc, ◌+◌, Bool, cond, List, [], ◌∷◌, length, nat_le, slice_index, slice_index_or, slice_set}
+use Rattle.std.specs.Prelude.{ℕ, zero, suc, ◌+◌, Bool, if◌then◌else◌, List, [], ◌∷◌, length, nat_le, slice_index, slice_index_or, slice_set}
 use Rattle.numbers.specs.declared.time.Time.{Time}
 use Rattle.numbers.specs.Numbers.{last_time}
 use Rattle.quorum.specs.Sets.{all_below}
@@ -11,7 +11,7 @@ use Rattle.rules.specs.Output.{Output, first_output}
 
 -- what a clock shows that is set to t; one that cannot show it starts at 0
 abbrev pub shown_as : Time → Time
-shown_as t = cond (nat_le t.0 last_time) t (record { 0 = 0 })
+shown_as t = if nat_le t.0 last_time then t else record { 0 = 0 }
 
 -- server i starts with the clock at place i, and with 0 where there is none
 abbrev pub starts_at : List Time → ℕ → Time

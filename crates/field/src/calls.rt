@@ -121,7 +121,11 @@ impl Field {
     }
 
     /// Begins a read of an object, and gives the operation's number, 1 to 1,024. A read request
-    /// is logged for every output server. Refuses as the beginning of a write does.
+    /// is logged for every output server.
+    ///
+    /// Refuses by the first of these: 8 where the field is not open; 9 where log, table or systems
+    /// are not as at the opening; 21 there is no such object; 22 the table is full; 23 fewer than
+    /// nine places of the log are free. A refusal alters nothing.
     #[tactic(auto, using(crate::proofs::Closed::read_closed))]
     pub fn begin_read<I: QuorumSystem, O: QuorumSystem>(
         &mut self,

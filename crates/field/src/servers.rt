@@ -1,6 +1,6 @@
 // The servers of a field stand in two tables, one for each side. What a field does with all servers
 // of a side is the same for input servers and for output servers.
-ghost use Rattle.std.specs.Prelude.{◌≡◌, ℕ, ◌+◌, ◌≤◌, true, cond, [], ◌∷◌, Some, None, length, map, nat_le, nat_lt, slice_index_or};
+ghost use Rattle.std.specs.Prelude.{◌≡◌, ℕ, ◌+◌, ◌≤◌, true, if◌then◌else◌, [], ◌∷◌, Some, None, length, map, nat_le, nat_lt, slice_index_or};
 ghost use Rattle.numbers.specs.declared.time.Time.{Time as LocalTime};
 ghost use Rattle.numbers.specs.Numbers.{last_time};
 ghost use Rattle.input_server.specs.Views.{input_of};
@@ -112,7 +112,7 @@ pub(crate) fn clock_at<S: Server>(
 ) -> Option<Time>
     ensures { let first = S.first (record { 0 = 0 }) in
         let at : S.Kept = slice_index_or (map S.kept servers.now) number first in
-        result ≡ cond (nat_lt number count.number) (Some (S.shows at)) None }
+        result ≡ (if nat_lt number count.number then Some (S.shows at) else None) }
 {
     if number < count.get() {
         Some(servers[number as usize].clock())

@@ -6,7 +6,7 @@ use Rattle.rules.specs.declared.message.Message.TheVariants.{ClockAnswer, WriteR
 use Rattle.numbers.specs.declared.version.Version.{Version}
 use Rattle.rules.specs.Said.{began}
 use Rattle.rules.specs.State.{Outcome, refuse}
-use Rattle.guarantee.specs.Story.{Story, to_write, to_read, call_at, before, said_at, logged_at, part, Has, BeginsWrite, BeginsRead, Gets, EndsWrite, EndsRead}
+use Rattle.guarantee.specs.Story.{Story, to_write, to_read, call_at, before, said_at, logged_at, part, Has, BeginsWrite, BeginsRead, Sends, EndsWrite, EndsRead}
 use Rattle.guarantee.proofs.CallEffects.{act_of, news_of, Accepted, none_logged}
 use Rattle.guarantee.proofs.Ends.{WriteEnds, write_ends, ReadEnds, read_ends, GetsVersion, gets_version_lem, begins_next}
 use Rattle.guarantee.proofs.Keeps.{grows}
@@ -131,7 +131,7 @@ module _ (given : Given) where
     pub begun : Begun (world given t) p
     pub named : how.named ≡ p
 
-  pub getting : (t p v : ℕ) → Gets S t p v → Getting t p v
+  pub getting : (t p v : ℕ) → Sends S t p v → Getting t p v
   getting t p v g = elim (fine given t (let z = g.made in omega arith)) [
     | inl e ↦ absurd (closed_logs e)
     | inr k ↦ elim (happens given k.P t k.live) [

@@ -11,7 +11,7 @@ use Rattle.rules.specs.Operation.{Operation, asking, sending, ended, Asking, Rea
 use Rattle.rules.specs.Reaction.{Reaction}
 use Rattle.rules.proofs.Reactions.{every_reaction}
 use Rattle.rules.specs.Said.{began}
-use Rattle.guarantee.specs.Story.{Story, Call, to_write, to_read, call_at, before, said_at, BeginsWrite, BeginsRead, BeginsAsWrite, BeginsAsRead, Gets, EndsWrite, EndsRead}
+use Rattle.guarantee.specs.Story.{Story, Call, to_write, to_read, call_at, before, said_at, BeginsWrite, BeginsRead, BeginsAsWrite, BeginsAsRead, Sends, Gets, EndsWrite, EndsRead}
 use Rattle.guarantee.specs.Guarantee.{NeverBehind, NeverInvented, AlwaysRising, OneVersion, Written, EndOf, BegunOnce, WhatEndsHasBegun, Guarantee, EveryStory}
 use Rattle.guarantee.proofs.CallEffects.{act_of, news_of}
 use Rattle.guarantee.proofs.Ends.{ReadEnds, read_ends, GetsVersion, gets_version_lem, begins_next}
@@ -247,7 +247,7 @@ module _ (given : Given) where
   one_version : OneVersion S
   one_version = (gets_once, ends_with_it)
     where
-      gets_once : (p g h v w : ℕ) → Gets S g p v → Gets S h p w → (g ≡ h) × (v ≡ w)
+      gets_once : (p g h v w : ℕ) → Sends S g p v → Sends S h p w → (g ≡ h) × (v ≡ w)
       gets_once p g h v w x y =
           let G = getting given g p v x in
           let H = getting given h p w y in

@@ -138,15 +138,17 @@ module _ (given : Given) where
             t,
             omega arith,
             record {
-              made = in_story;
-              number = d.0;
-              call = d.1;
-              input = i;
-              object = o;
-              version = v;
-              value = x;
-              is = refl;
-              logged = subst (λ (new : List Message). Has new (WriteRequest p i o v x)) (sym h.news) (in_has (WriteRequest p i o v x) _ n);
+              sends = record {
+                made = in_story;
+                number = d.0;
+                call = d.1;
+                input = i;
+                object = o;
+                version = v;
+                value = x;
+                is = refl;
+                logged = subst (λ (new : List Message). Has new (WriteRequest p i o v x)) (sym h.news) (in_has (WriteRequest p i o v x) _ n);
+              };
               begins = (begins e).0;
               earlier = (begins e).1;
               begun = (o, x, (begins e).2);

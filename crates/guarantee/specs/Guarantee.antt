@@ -1,7 +1,7 @@
 -- The read guarantee: what holds in every story, over any two quorum systems that show the laws.
 use Rattle.std.specs.Prelude.{◌≡◌, ℕ, ◌<◌, ◌≤◌, false, ◌⊎◌}
 use Rattle.quorum.specs.Systems.{Lawful}
-use Rattle.guarantee.specs.Story.{Story, BeginsWrite, BeginsRead, BeginsAsWrite, BeginsAsRead, Gets, EndsWrite, EndsRead}
+use Rattle.guarantee.specs.Story.{Story, BeginsWrite, BeginsRead, BeginsAsWrite, BeginsAsRead, Sends, Gets, EndsWrite, EndsRead}
 
 -- A read that ends has a version at least that of every write of its object that ended before the
 -- read began.
@@ -28,17 +28,17 @@ NeverInvented S =
     (o q u e v z : ℕ) → BeginsRead S u q o → EndsRead S e q v z
     → ((v ≡ 65536) × (z ≡ 0)) ⊎ Written S e o v z
 
--- A write that begins after another write of its object ended gets a higher version, if it gets
+-- A write that begins after another write of its object ended sends a higher version, if it sends
 -- one.
 abbrev pub AlwaysRising : Story → Type 0
 AlwaysRising S =
     (o p q t u g x y z v w b : ℕ)
     → BeginsWrite S b p o x → EndsWrite S t p w y
-    → BeginsWrite S u q o z → t < u → Gets S g q v
+    → BeginsWrite S u q o z → t < u → Sends S g q v
     → w < v
 
--- A write gets one version, once. Its end comes later, gives that version and the value that was
--- handed in.
+-- An operation sends one version, once. The end of a write comes later than the version that it
+-- gets, and gives that version and the value that was handed in.
 pub record EndOf (S : Story) (t p w y : ℕ) : Type 0 where
   pub gets : ℕ
   pub earlier : gets < t
@@ -47,7 +47,7 @@ pub record EndOf (S : Story) (t p w y : ℕ) : Type 0 where
 
 abbrev pub OneVersion : Story → Type 0
 OneVersion S =
-    ((p g h v w : ℕ) → Gets S g p v → Gets S h p w → (g ≡ h) × (v ≡ w))
+    ((p g h v w : ℕ) → Sends S g p v → Sends S h p w → (g ≡ h) × (v ≡ w))
     × ((p t w y : ℕ) → EndsWrite S t p w y → EndOf S t p w y)
 
 -- What ends has begun: with one call before it, as what it ends as, and with no other call. One

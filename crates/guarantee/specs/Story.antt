@@ -86,10 +86,9 @@ BeginsAsWrite S t p = (o : ℕ) × (x : ℕ) × BeginsWrite S t p o x
 abbrev pub BeginsAsRead : Story → ℕ → ℕ → Type 0
 BeginsAsRead S t p = (o : ℕ) × BeginsRead S t p o
 
--- With call number t, a delivery, the write p gets its version v: it logs a write request of p
--- with that version. That p is a write is what a call before it says; an operation that sends
--- write requests is no write by that alone.
-pub record Gets (S : Story) (t p v : ℕ) : Type 0 where
+-- With call number t, a delivery, the operation p sends the version v: it logs a write request of p
+-- with that version.
+pub record Sends (S : Story) (t p v : ℕ) : Type 0 where
   pub made : t < length S.calls
   pub number : ℕ
   pub call : call_at S t ≡ to_deliver number
@@ -99,6 +98,11 @@ pub record Gets (S : Story) (t p v : ℕ) : Type 0 where
   pub value : ℕ
   pub is : version.0 ≡ v
   pub logged : Has (logged_at S t) (WriteRequest p input object version value)
+
+-- With call number t the write p gets its version v: it sends v, and a call before began p as a
+-- write. An operation that sends write requests is no write by that alone.
+pub record Gets (S : Story) (t p v : ℕ) : Type 0 where
+  pub sends : Sends S t p v
   pub begins : ℕ
   pub earlier : begins < t
   pub begun : BeginsAsWrite S begins p

@@ -36,22 +36,22 @@ impl InputServer {
     fn acknowledge(&mut self, output: OutputNumber, pair: Pair)
         ensures { input_of self.new ≡ acknowledges output.number pair (input_of self.old) }
     {
-        let acked = raise_acked(&mut self.ledgers[output.index()].last_acknowledged, pair);
-        self.chains.acknowledge(output, pair.object, acked);
+        let highest = raise(&mut self.ledgers[output.index()].last_acknowledged, pair);
+        self.chains.acknowledge(output, pair.object, highest);
     }
 }
 
 // Says what is acknowledged then. For an object that there is no place for, that is the version
 // itself, and nothing is raised.
-fn raise_acked(acked: &mut [Version], pair: Pair) -> Version
-    ensures says { result ≡ raised (slice_index_or acked.old pair.object none) pair.version }
-    ensures after { let highest = raised (slice_index_or acked.old pair.object none) pair.version in
-        acked.new ≡ slice_set acked.old pair.object highest }
+fn raise(versions: &mut [Version], pair: Pair) -> Version
+    ensures says { result ≡ raised (slice_index_or versions.old pair.object none) pair.version }
+    ensures after { let highest = raised (slice_index_or versions.old pair.object none) pair.version in
+        versions.new ≡ slice_set versions.old pair.object highest }
 {
     let place = usize::from(pair.object);
-    if place >= acked.len() {
+    if place >= versions.len() {
         return pair.version;
     }
-    acked[place] = acked[place].max(pair.version);
-    acked[place]
+    versions[place] = versions[place].max(pair.version);
+    versions[place]
 }

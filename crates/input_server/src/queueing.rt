@@ -61,8 +61,8 @@ impl InputServer {
         }
     }
 
-    // Whether the output server has to be told of a write: it was given a version that it did not
-    // go beyond.
+    // Whether the output server has to be told of a write: some output server was given a version,
+    // and this one acknowledged none above it.
     fn is_owed(&self, output: OutputNumber, object: ObjectNumber) -> bool
         ensures { result ≡ owed (input_of self.now) object.number output.number }
     {

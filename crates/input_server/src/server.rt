@@ -14,8 +14,9 @@ use numbers::{Epoch, InputNumber, Moment, OperationNumber, Time, Version};
 use quorum::Refusal;
 use rules::{Held, Ledger, Log, Message, OBJECTS, SERVERS};
 
-/// A server that takes writes and grants leases. It keeps the newest version of each object, and of
-/// each output server what that was given, was told and has acknowledged.
+/// A server that takes writes and grants leases. It keeps of each object the newest version and the
+/// highest that it gave to any output server, and of each output server what that acknowledged,
+/// its epoch, its lease end and what waits for it.
 ///
 /// A step takes numbers that were tested, and asks for nine free places of the log before it
 /// changes anything: where it refuses, server and log are as they were.
@@ -101,9 +102,10 @@ impl InputServer {
     }
 
     /// Takes a write request. A version above the one held is held from now on, with its value.
-    /// Taken or not, the version then held waits for each output server that was given a version
-    /// and acknowledged none above it. Then it logs an invalidation to each output server that is
-    /// not shut out, rising, and an answer that names those that are.
+    /// Taken or not, where any output server was ever given the object, the version then held waits
+    /// for each that acknowledged nothing above the highest version given. Then it logs an
+    /// invalidation to each output server that is not shut out, rising, and an answer that names
+    /// those that are.
     ///
     /// Refuses 32 where the log has fewer than nine free places, then 33 where an output server has
     /// the last epoch, which no other one can follow.

@@ -11,19 +11,19 @@ use quorum::MemberSet;
 use rules::{Log, Message};
 
 impl InputServer {
-    // An output server is shut out for an object if it was never given the object, went beyond all
-    // that it was given, acknowledged the version held, or has no lease any more. The number is a
-    // plain one, as the ranges below yield it: an iterator of checked numbers would be a type of
-    // its own, with laws of its own, for a comparison that the check makes alone.
+    // An output server is shut out for an object if nobody was ever given the object, if it
+    // acknowledged more than was ever given or the version held, or if its lease is over. The
+    // number is a plain one, as the ranges below yield it: an iterator of checked numbers would
+    // be a type of its own, with laws of its own, for a comparison that the check makes alone.
     fn is_shut_out(&self, output: u8, object: ObjectNumber) -> bool
         requires { output < 8 }
         ensures { result ≡ is_shut_out (input_of self.now) object.number output }
     {
         let held = self.objects[object.index()];
-        let acked = self.ledgers[output as usize].last_acknowledged[object.index()];
+        let acknowledged = self.ledgers[output as usize].last_acknowledged[object.index()];
         held.last_read == Version::NONE
-            || held.last_read < acked
-            || held.version <= acked
+            || held.last_read < acknowledged
+            || held.version <= acknowledged
             || self.ledgers[output as usize].lease_end <= Time::from(self.clock)
     }
 

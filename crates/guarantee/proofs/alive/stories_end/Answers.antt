@@ -24,15 +24,17 @@ write_then_read_holds = record {
   };
   write_begins = record { made = lit< tt; call = refl; said = refl };
   write_gets = record {
-    made = lit< tt;
-    number = 2;
-    call = refl;
-    input = 0;
-    object = 0;
-    version = record { 0 = 131073 };
-    value = 7;
-    is = refl;
-    logged = (0, lit< tt, refl);
+    sends = record {
+      made = lit< tt;
+      number = 2;
+      call = refl;
+      input = 0;
+      object = 0;
+      version = record { 0 = 131073 };
+      value = 7;
+      is = refl;
+      logged = (0, lit< tt, refl);
+    };
     begins = 1;
     earlier = lit< tt;
     begun = (0, 7, record { made = lit< tt; call = refl; said = refl });
@@ -54,15 +56,17 @@ under_lease_holds = record {
   first_read_ends = record { made = lit< tt; said = refl };
   write_begins = record { made = lit< tt; call = refl; said = refl };
   write_gets = record {
-    made = lit< tt;
-    number = 10;
-    call = refl;
-    input = 0;
-    object = 0;
-    version = record { 0 = 196611 };
-    value = 8;
-    is = refl;
-    logged = (0, lit< tt, refl);
+    sends = record {
+      made = lit< tt;
+      number = 10;
+      call = refl;
+      input = 0;
+      object = 0;
+      version = record { 0 = 196611 };
+      value = 8;
+      is = refl;
+      logged = (0, lit< tt, refl);
+    };
     begins = 12;
     earlier = lit< tt;
     begun = (0, 8, record { made = lit< tt; call = refl; said = refl });
@@ -93,15 +97,17 @@ lease_over_holds = record {
   time_passes = refl;
   write_begins = record { made = lit< tt; call = refl; said = refl };
   write_gets = record {
-    made = lit< tt;
-    number = 6;
-    call = refl;
-    input = 0;
-    object = 0;
-    version = record { 0 = 131074 };
-    value = 7;
-    is = refl;
-    logged = (0, lit< tt, refl);
+    sends = record {
+      made = lit< tt;
+      number = 6;
+      call = refl;
+      input = 0;
+      object = 0;
+      version = record { 0 = 131074 };
+      value = 7;
+      is = refl;
+      logged = (0, lit< tt, refl);
+    };
     begins = 8;
     earlier = lit< tt;
     begun = (0, 7, record { made = lit< tt; call = refl; said = refl });
