@@ -1,3 +1,5 @@
+ghost use Rattle.std.specs.Prelude.{◌≡◌, ◌==◌};
+
 use numbers::Version;
 use rules::Pair;
 
@@ -27,4 +29,13 @@ pub struct Entry {
     pub slot: u8,
     /// The pair in it.
     pub pair: Pair,
+}
+
+impl Entry {
+    // Whether it waits for that object.
+    pub(crate) fn names(self, object: u8) -> bool
+        ensures { result ≡ (self.pair.object == object) }
+    {
+        self.pair.object == object
+    }
 }

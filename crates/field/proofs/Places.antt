@@ -1,6 +1,6 @@
 -- One place of the table: what is there, and what an answer leaves there.
-use Rattle.std.proofs.Common.{◌≡◌, ℕ, ◌-◌, ◌≤◌, true, eqb, List, map, length, get_or, set, sym, ap, ◌∙◌, arith}
-use Rattle.std.proofs.lemmas.List.{get_or-map, map-set, set-set}
+use Rattle.std.proofs.Common.{◌≡◌, ℕ, ◌+◌, ◌-◌, ◌≤◌, true, [], eqb, List, map, length, get_or, set, sym, ap, ◌∙◌, arith}
+use Rattle.std.proofs.lemmas.List.{get_or-map, map-set, set-get_or, set-set}
 use Rattle.std.proofs.lemmas.Bool.{cond-true, and_parts, eq-eqb, eqb-true}
 use Rattle.quorum.specs.Systems.{System}
 use Rattle.rules.specs.declared.delivery.Delivery.{Delivery}
@@ -9,8 +9,9 @@ use Rattle.rules.specs.Answers.{end_of}
 use Rattle.rules.specs.Calls.{with_operation, handed_to}
 use Rattle.rules.specs.Operation.{Operation, unused, asking, sending, reading, ended}
 use Rattle.rules.specs.Ranges.{Counts, state_fits}
-use Rattle.rules.specs.Reaction.{Reaction, reacts}
-use Rattle.rules.specs.State.{outcome, post}
+use Rattle.rules.specs.Reaction.{Reaction, reacts, goes_on}
+use Rattle.rules.specs.Said.{nothing_ended}
+use Rattle.rules.specs.State.{State, outcome, post}
 use Rattle.operation.specs.declared.table.Operation as Code
 use Rattle.operation.specs.Alone.{refusal_at, taken, alone}
 use Rattle.operation.specs.States.{operation_of}
@@ -58,3 +59,15 @@ heard i o m p r f g log log' table u before after d accepts was does place says 
     ap (λ (z : Reaction). outcome z.said (post z.sends (with_operation p z.next s))) e
     ∙ (λ z. outcome (sym says z) (post r.sends (record s { table = (ap (set (map operation_of table) (p - 1)) (sym place) ∙ sym (place_stored table p u after)) z })))
     ∙ ap (outcome (end_of d)) (sym (sends (set (set table (p - 1) u) (p - 1) after)))
+
+post_none : (s : State) → post [] s ≡ s
+post_none s = let z : s.made + 0 ≡ s.made = omega arith in ap (λ (n : ℕ). record s { made = n }) z
+
+-- a message that it does not wait for changes nothing
+pub untouched : (i o : System) (m : Message) (p : ℕ) (f : OpenField) (log : List Message) (table : List Code.Operation)
+    → reacts i o m (place_of table p) ≡ goes_on (place_of table p) → handed_to i o m p (state_of f log table) ≡ outcome nothing_ended (state_of f log table)
+untouched i o m p f log table e =
+    let s = state_of f log table in
+    ap (λ (z : Reaction). outcome z.said (post z.sends (with_operation p z.next s))) e
+    ∙ ap (λ (t : List Operation). outcome nothing_ended (post [] (record s { table = t }))) (set-get_or s.table (p - 1) unused)
+    ∙ ap (outcome nothing_ended) (post_none s)

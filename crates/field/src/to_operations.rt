@@ -1,11 +1,12 @@
 // What the operations in the table do with answers.
-ghost use Rattle.std.specs.Prelude.{◌≡◌, ◌+◌, ◌≤◌, List, length, OnErr};
+ghost use Rattle.std.specs.Prelude.{◌≡◌, ◌+◌, ◌≤◌, false, List, length, OnErr};
 ghost use Rattle.operation.specs.declared.table.Operation.{Operation as Place};
 ghost use Rattle.operation.specs.Says.{place_step};
 ghost use Rattle.operation.specs.States.{operation_of};
 ghost use Rattle.quorum.specs.Systems.{System};
 ghost use Rattle.rules.specs.Answers.{end_of, delivery_says};
 ghost use Rattle.rules.specs.Calls.{handed_to, hands_over};
+ghost use Rattle.rules.specs.Reaction.{reacts, goes_on};
 ghost use Rattle.rules.specs.State.{outcome, post};
 ghost use Rattle.field.specs.Delivered.{numbered, IsAnswerTo, Deliverable, Reached};
 ghost use Rattle.field.specs.Views.{state_of};
@@ -14,6 +15,20 @@ use crate::open_field::OpenField;
 use operation::{Operation, Reaction};
 use quorum::{QuorumSystem, Refusal, Systems};
 use rules::{Delivery, Message};
+
+// Whether the message is the answer that the operation waits for. Any other leaves it as it is, so
+// that no state has to be moved for it.
+fn waits_for(operation: &Operation, message: &Message) -> bool
+    ensures { result ≡ false → (i o : System) →
+        let x = operation_of operation.now in reacts i o message.now x ≡ goes_on x }
+{
+    matches!(
+        (operation, message),
+        (Operation::Asking(_), Message::ClockAnswer { .. })
+            | (Operation::Sending(_), Message::WriteAnswer { .. })
+            | (Operation::Reading(_), Message::ReadAnswer { .. })
+    )
+}
 
 impl OpenField {
     // The operation is handed the message of that number, an answer to it. Refuses 33 where a
@@ -68,6 +83,9 @@ impl OpenField {
             ≡ outcome (end_of result) (state_of self.new log.new table.new) }
     {
         let place = operation as usize - 1;
+        if !waits_for(&table[place], &log[number as usize - 1]) {
+            return Delivery::NothingEnded;
+        }
         let before = std::mem::replace(&mut table[place], Operation::Unused);
         let Ok(reaction) = before.answer(&log[number as usize - 1], systems) else {
             unreachable!()

@@ -4,11 +4,12 @@
 #![tactic(auto)]
 
 mod stage;
+mod stop;
 mod words;
 
-use anyhow::Result;
 use numbers::Version;
 use stage::Stage;
+use stop::Stop;
 
 const LEGEND: &str = "\
 One input server, one output server, one object. Times are microseconds, and both clocks show the
@@ -18,7 +19,7 @@ messages that it makes, with their numbers in brackets.
 ";
 
 // The first read finds nothing. Once object and lease are there, reads are answered.
-fn renewing(rt: &impl Print, stage: &mut Stage) -> Result<()> {
+fn renewing(rt: &impl Print, stage: &mut Stage) -> Result<(), Stop> {
     stage.advance(500)?;
     stage.read(rt)?;
     stage.deliver(rt, 1)?;
@@ -29,7 +30,7 @@ fn renewing(rt: &impl Print, stage: &mut Stage) -> Result<()> {
 
 // A write is told to the output server, which answers no read until it has the new version. Once
 // its acknowledgement is there, the input server names it as shut out.
-fn invalidated(rt: &impl Print, stage: &mut Stage) -> Result<()> {
+fn invalidated(rt: &impl Print, stage: &mut Stage) -> Result<(), Stop> {
     let version = Version::new(2, 1);
     stage.advance(180)?;
     stage.write(rt, 1, version, 40)?;
@@ -48,7 +49,7 @@ fn invalidated(rt: &impl Print, stage: &mut Stage) -> Result<()> {
 
 // The invalidation of the next write, message 11, is never delivered. The output server answers the
 // old version until its lease is over; only then does the input server name it as shut out.
-fn missing(rt: &impl Print, stage: &mut Stage) -> Result<()> {
+fn missing(rt: &impl Print, stage: &mut Stage) -> Result<(), Stop> {
     let version = Version::new(3, 2);
     stage.advance(160)?;
     stage.write(rt, 2, version, 60)?;
@@ -62,7 +63,7 @@ fn missing(rt: &impl Print, stage: &mut Stage) -> Result<()> {
 
 // The answer to the request of 1490 arrives when its lease is over already. Its list tells what was
 // missed, and both parts are asked for anew.
-fn renewing_late(rt: &impl Print, stage: &mut Stage) -> Result<()> {
+fn renewing_late(rt: &impl Print, stage: &mut Stage) -> Result<(), Stop> {
     stage.advance(100)?;
     stage.deliver(rt, 14)?;
     stage.advance(1_100)?;
@@ -76,7 +77,7 @@ fn renewing_late(rt: &impl Print, stage: &mut Stage) -> Result<()> {
     stage.read(rt)
 }
 
-fn main(rt: HostRuntime) -> Result<()> {
+fn main(rt: HostRuntime) -> Result<(), Stop> {
     let mut stage = Stage::new()?;
     println!(rt; "{LEGEND}")?;
     renewing(&rt, &mut stage)?;

@@ -1,14 +1,14 @@
 // The two servers with their log, and what can happen to them. Every message stays in the log under
 // its number, and is delivered when the story says so, or never.
+use crate::stop::Stop;
 use crate::words::{Versions, Words};
-use anyhow::{Result, bail};
 use input_server::{InputServer, RenewalRequest, WriteRequest};
 use numbers::{
     Drift, InputNumber, LeaseLength, Moment, ObjectNumber, OperationNumber, OutputNumber,
     ServerCount, Time, Version,
 };
 use output_server::OutputServer;
-use quorum::Majority;
+use quorum::{Majority, Refusal};
 use rules::{InRange, Log, Message, Pair, Pairs, Renewal, Renewed};
 
 #[derive(Drop)]
@@ -31,7 +31,7 @@ pub(crate) struct Stage {
 }
 
 impl Stage {
-    pub(crate) fn new() -> Result<Stage> {
+    pub(crate) fn new() -> Result<Stage, Stop> {
         let clock = Moment::try_from(Time::ZERO)?;
         Ok(Stage {
             input: InputServer::new(clock),
@@ -49,14 +49,14 @@ impl Stage {
     }
 
     // Time passes, for both servers alike.
-    pub(crate) fn advance(&mut self, increment: u64) -> Result<()> {
+    pub(crate) fn advance(&mut self, increment: u64) -> Result<(), Stop> {
         self.input.tick(increment)?;
         self.output.tick(increment)?;
         Ok(())
     }
 
     // That version of the object.
-    fn pair(&self, version: Version) -> Result<InRange<Pair>> {
+    fn pair(&self, version: Version) -> Result<InRange<Pair>, Stop> {
         Ok(InRange::alone(Pair {
             object: self.object.get(),
             version,
@@ -64,14 +64,14 @@ impl Stage {
     }
 
     // Begins a line with the clock.
-    fn begin(&self, rt: &impl Print) -> Result<()> {
+    fn begin(&self, rt: &impl Print) -> Result<(), Stop> {
         let clock = self.input.clock();
         print!(rt; "{clock:>5}  ")?;
         Ok(())
     }
 
     // Ends a line with the messages made since so many.
-    fn end(&self, rt: &impl Print, before: usize) -> Result<()> {
+    fn end(&self, rt: &impl Print, before: usize) -> Result<(), Stop> {
         for (place, message) in self.log.iter().enumerate().take(self.made).skip(before) {
             let words = Words(message);
             let number = place + 1;
@@ -82,7 +82,7 @@ impl Stage {
     }
 
     // A read request reaches the output server.
-    pub(crate) fn read(&mut self, rt: &impl Print) -> Result<()> {
+    pub(crate) fn read(&mut self, rt: &impl Print) -> Result<(), Stop> {
         self.begin(rt)?;
         print!(rt; "output server is read")?;
         let before = self.made;
@@ -105,7 +105,7 @@ impl Stage {
         operation: u16,
         version: Version,
         value: u64,
-    ) -> Result<()> {
+    ) -> Result<(), Stop> {
         self.begin(rt)?;
         print!(rt; "input server is asked to write version {version} with value {value}")?;
         let before = self.made;
@@ -123,9 +123,9 @@ impl Stage {
     }
 
     // A message reaches the server that it is for.
-    pub(crate) fn deliver(&mut self, rt: &impl Print, number: usize) -> Result<()> {
+    pub(crate) fn deliver(&mut self, rt: &impl Print, number: usize) -> Result<(), Stop> {
         if number < 1 || number > self.log.len() {
-            bail!("there is no message {number}");
+            return Err(Stop::Refused(Refusal::NoSuchMessage));
         }
         self.begin(rt)?;
         print!(rt; "[{number}] ")?;
@@ -136,13 +136,13 @@ impl Stage {
             Message::Invalidation { version, .. } => self.told(rt, version)?,
             Message::InvalidationAnswer { list, .. } => self.acknowledged(rt, list)?,
             // no other kind is for one of the two
-            _ => bail!("message {number} is for neither server"),
+            _ => return Err(Stop::Refused(Refusal::NoSuchMessage)),
         }
         self.end(rt, before)
     }
 
     // A renewal request reaches the input server.
-    fn asked(&mut self, rt: &impl Print, renewal: Renewal) -> Result<()> {
+    fn asked(&mut self, rt: &impl Print, renewal: Renewal) -> Result<(), Stop> {
         let before = self.made;
         let request = RenewalRequest {
             output: self.output_number,
@@ -169,7 +169,7 @@ impl Stage {
     }
 
     // An invalidation reaches the output server.
-    fn told(&mut self, rt: &impl Print, version: Version) -> Result<()> {
+    fn told(&mut self, rt: &impl Print, version: Version) -> Result<(), Stop> {
         print!(rt; "reaches the output server")?;
         let pair = self.pair(version)?;
         let mut log = Log::new(&mut self.log, self.made);
@@ -180,7 +180,7 @@ impl Stage {
     }
 
     // An acknowledgement reaches the input server.
-    fn acknowledged(&mut self, rt: &impl Print, list: Pairs) -> Result<()> {
+    fn acknowledged(&mut self, rt: &impl Print, list: Pairs) -> Result<(), Stop> {
         let versions = Versions(list);
         print!(rt;
             "reaches the input server, which notes that the output server knows {versions}"
@@ -191,7 +191,7 @@ impl Stage {
     }
 
     // A renewal answer reaches the output server.
-    fn renewed(&mut self, rt: &impl Print, renewed: Renewed) -> Result<()> {
+    fn renewed(&mut self, rt: &impl Print, renewed: Renewed) -> Result<(), Stop> {
         let renewed = InRange::alone(renewed)?;
         print!(rt; "reaches the output server")?;
         if renewed.length().micros() > 0 {

@@ -3,11 +3,13 @@
 // take it from its radio.
 #![tactic(auto)]
 
+mod stop;
 mod walk;
 
 use operation::AskingWrite;
 use quorum::{Majority, MemberSet, ReadOneWriteAll, Systems};
 use rules::Message;
+use stop::Stop;
 use walk::{ask, send};
 
 fn clock(input: u8, operation: u16, clock: u16) -> Message {
@@ -26,7 +28,7 @@ fn named(input: u8, operation: u16, set: u64) -> Message {
     }
 }
 
-fn main(rt: HostRuntime) -> anyhow::Result<()> {
+fn main(rt: HostRuntime) -> Result<(), Stop> {
     let systems = Systems {
         inputs: Majority::new(3)?,
         outputs: ReadOneWriteAll::new(2)?,

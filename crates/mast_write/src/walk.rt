@@ -1,6 +1,6 @@
 // A write goes from state to state by its answers. Each state is a type of its own: an answer uses
 // the state up and gives the next one, and a refusal gives it back as it was.
-use anyhow::{Result, bail};
+use crate::stop::Stop;
 use operation::{AskingProgress, AskingWrite, End, Progress, SendingWrite};
 use quorum::{QuorumSystem, Refusal, Systems};
 use rules::Message;
@@ -12,7 +12,7 @@ pub(crate) fn ask<I: QuorumSystem, O: QuorumSystem>(
     begun: AskingWrite,
     answers: &[Message],
     systems: &Systems<I, O>,
-) -> Result<SendingWrite> {
+) -> Result<SendingWrite, Stop> {
     walk(rt, begun, answers, "asks", |write, answer| {
         Ok(match write.answer(answer, systems)? {
             AskingProgress::Asking(write) => ControlFlow::Continue(write),
@@ -28,7 +28,7 @@ pub(crate) fn send<I: QuorumSystem, O: QuorumSystem>(
     begun: SendingWrite,
     answers: &[Message],
     systems: &Systems<I, O>,
-) -> Result<End> {
+) -> Result<End, Stop> {
     walk(rt, begun, answers, "sends", |write, answer| {
         Ok(match write.answer(answer, systems)? {
             Progress::On(write) => ControlFlow::Continue(write),
@@ -44,9 +44,9 @@ fn walk<S: Drop, T, F>(
     answers: &[Message],
     doing: &str,
     hand: F,
-) -> Result<T>
+) -> Result<T, Stop>
 where
-    F: Fn(S, &Message) -> std::result::Result<ControlFlow<T, S>, (Refusal, S)>,
+    F: Fn(S, &Message) -> Result<ControlFlow<T, S>, (Refusal, S)>,
     requires { F.IsAlwaysCallable hand }
 {
     let mut state = begun;
@@ -64,5 +64,5 @@ where
             }
         };
     }
-    bail!("the answers ran out before the write could go on")
+    Err(Stop::Unanswered)
 }

@@ -4,7 +4,7 @@ use Rattle.std.specs.List.{list_all}
 use Rattle.std.specs.Option.{option_map_or}
 use Rattle.quorum.specs.declared.member_set.MemberSet.{MemberSet}
 use Rattle.quorum.specs.declared.refusal.Refusal.{Refusal}
-use Rattle.quorum.specs.declared.refusal.Refusal.TheVariants.{OutOfRange}
+use Rattle.quorum.specs.Refusals.{number_of}
 use Rattle.quorum.specs.Sets.{all_below}
 use Rattle.rules.specs.declared.message.Message.{Message}
 use Rattle.rules.specs.declared.message.Message.TheVariants.{ClockQuestion, ClockAnswer, WriteRequest, WriteAnswer, ReadRequest, ReadAnswer, RenewalRequest, RenewalAnswer, Invalidation, InvalidationAnswer}
@@ -29,7 +29,7 @@ pub record Counts : Type 0 where
 -- range, and the refusal 33 otherwise.
 abbrev pub TestsRange : {A B : Type 0} → (A → B) → Bool → B → Result A Refusal → Type 0
 TestsRange of fits x (Ok a) = (fits ≡ true) × (of a ≡ x)
-TestsRange of fits x (Err e) = (fits ≡ false) × (e ≡ OutOfRange)
+TestsRange of fits x (Err e) = (fits ≡ false) × (number_of e ≡ 33)
 
 -- of a field with k objects
 abbrev pub pair_fits : ℕ → Pair → Bool

@@ -66,10 +66,14 @@ impl Counts {
             TestsRange {B = ℕ × ℕ × T} (λ b. (b.input.number, b.output.number, b.carried.value))
             (ends c input output && T.fits c.k carried) (input, output, carried) result }
     {
+        if !carried.fits(self.objects) {
+            return Err(Refusal::OutOfRange);
+        }
         Ok(Between {
             input: self.input(input)?,
             output: self.output(output)?,
-            carried: InRange::new(carried, self.objects)?,
+            // made here: through `InRange::new` what an answer brings would be copied twice more
+            carried: InRange { value: carried },
         })
     }
 

@@ -138,3 +138,14 @@ impl Message {
         }
     }
 }
+
+impl Default for Message {
+    ghost use Rattle.rules.specs.Calls.{no_message};
+
+    /// A blank place of a log: `Message::BLANK`.
+    fn default() -> Message
+        ensures { result ≡ no_message }
+    {
+        Message::BLANK
+    }
+}

@@ -3,15 +3,16 @@
 #![tactic(auto)]
 
 mod losses;
+mod stop;
 #[cfg(test)]
 mod tests;
 mod text;
 
-use anyhow::Result;
 use losses::{Family, finds_after, smallest_set};
 use quorum::{Majority, QuorumSystem, ReadOneWriteAll};
+use stop::Stop;
 
-fn survey<Q: QuorumSystem>(rt: &impl Print, servers: &str, system: &Q) -> Result<()> {
+fn survey<Q: QuorumSystem>(rt: &impl Print, servers: &str, system: &Q) -> Result<(), Stop> {
     println!(rt; "  {servers}")?;
     // a loop: each turn prints a line, and ends the survey by `?` where that fails
     for lost in 0..=system.count() {
@@ -26,7 +27,7 @@ fn survey<Q: QuorumSystem>(rt: &impl Print, servers: &str, system: &Q) -> Result
     Ok(())
 }
 
-fn layout(rt: &impl Print, inputs: u64, outputs: u64) -> Result<()> {
+fn layout(rt: &impl Print, inputs: u64, outputs: u64) -> Result<(), Stop> {
     println!(rt)?;
     println!(rt; "Inputs: {inputs}, by majority. Outputs: {outputs}, by read-one write-all.")?;
     survey(rt, "inputs", &Majority::new(inputs)?)?;
@@ -40,7 +41,7 @@ For each number of lost servers: whether those left hold such a set,
   sometimes: for some losses and not for others;
   never: whichever servers are lost, those left are not enough.";
 
-fn main(rt: HostRuntime) -> Result<()> {
+fn main(rt: HostRuntime) -> Result<(), Stop> {
     println!(rt; "{LEGEND}")?;
     for (inputs, outputs) in [(5, 3), (4, 1), (8, 8)] {
         layout(&rt, inputs, outputs)?;

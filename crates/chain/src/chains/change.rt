@@ -1,4 +1,4 @@
-ghost use Rattle.std.specs.Prelude.{◌≡◌, ◌<◌, ◌≤◌, true, false, [], length, replicate, slice_set};
+ghost use Rattle.std.specs.Prelude.{◌≡◌, ◌<◌, ◌≤◌, true, false, [], length, nat_le, replicate, slice_set};
 ghost use Rattle.rules.specs.Input.{queued, freed};
 ghost use Rattle.chain.specs.Records.{linked_records, linked_heads};
 ghost use Rattle.chain.specs.Waiting.{waiting_of, waiting_for, has_free, Found, Queues};
@@ -29,6 +29,13 @@ fn link(
     } else {
         records[before as usize - 1].next = next;
     }
+}
+
+// Whether the acknowledgement of that version covers a waiting invalidation.
+fn is_covered(waiting: Version, acknowledged: Version) -> bool
+    ensures { result ≡ nat_le waiting.0 acknowledged.0 }
+{
+    waiting <= acknowledged
 }
 
 impl Chains {
@@ -122,7 +129,7 @@ impl Chains {
             return;
         }
         let record = self.records[place.here as usize - 1];
-        if record.version > version {
+        if !is_covered(record.version, version) {
             return;
         }
         link(

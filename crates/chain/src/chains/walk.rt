@@ -78,7 +78,7 @@ impl Chains {
     {
         let mut before = END;
         for entry in self.waiting(output) {
-            if entry.pair.object == object {
+            if entry.names(object) {
                 return Place {
                     before,
                     here: entry.slot,
