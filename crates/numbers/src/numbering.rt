@@ -20,7 +20,8 @@ pub trait Kind {
 pub struct Number<K: Kind> {
     /// The number, below the limit of its kind.
     pub number: u8,
-    kind: PhantomData<K>,
+    /// What is numbered: no value, it tells types apart.
+    pub kind: PhantomData<K>,
     pub ghost inside: { number < K.LIMIT },
 }
 

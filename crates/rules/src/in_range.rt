@@ -10,6 +10,7 @@ use crate::renewal::{Renewal, Renewed};
 use numbers::{Kind, LeaseLength, Moment, ObjectCount, ObjectIndex, ObjectNumber, Version};
 use quorum::Refusal;
 use std::alloc::AllocError;
+use std::marker::PhantomData;
 
 /// What a message carries whose numbers have ranges. Those of objects depend on how many a field
 /// has.
@@ -142,12 +143,16 @@ impl Renewed {
     }
 }
 
+// What was tested is handed out in the types of `numbers`, and not tested again.
 impl InRange<Pair> {
     /// The number of the object.
     pub fn object(&self) -> ObjectNumber
         ensures { result.number ≡ self.now.value.object }
     {
-        ObjectNumber::try_from(self.value.object).unwrap()
+        ObjectNumber {
+            number: self.value.object,
+            kind: PhantomData,
+        }
     }
 }
 
@@ -156,7 +161,10 @@ impl InRange<Renewal> {
     pub fn object(&self) -> ObjectNumber
         ensures { result.number ≡ self.now.value.object }
     {
-        ObjectNumber::try_from(self.value.object).unwrap()
+        ObjectNumber {
+            number: self.value.object,
+            kind: PhantomData,
+        }
     }
 }
 
@@ -181,13 +189,17 @@ impl InRange<Renewed> {
     pub fn length(&self) -> LeaseLength
         ensures { result.micros ≡ self.now.value.length }
     {
-        LeaseLength::try_from(u64::from(self.value.length)).unwrap()
+        LeaseLength {
+            micros: self.value.length,
+        }
     }
 
     /// When the output server asked, on its own clock.
     pub fn stamp(&self) -> Moment
         ensures { result.micros ≡ self.now.value.renewal.stamp.0 }
     {
-        Moment::try_from(self.value.renewal.stamp).unwrap()
+        Moment {
+            micros: self.value.renewal.stamp.0,
+        }
     }
 }
